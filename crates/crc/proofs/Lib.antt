@@ -1,0 +1,4 @@
+-- Laws that serve several functions, and other crates.
+pub mod EveryEntry
+pub mod Steps
+pub mod Width
