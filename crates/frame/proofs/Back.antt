@@ -1,0 +1,193 @@
+-- An accepted list of bytes is what writing its fields gives, and its fields can be written.
+use mathlib.Core.Path.{_≡_, refl, sym, ap, ap₂, _∙_, subst}
+use mathlib.Core.Bool.{Bool, true, false, _&&_, not, cond}
+use mathlib.Core.List.{List, [], _∷_, _++_}
+use Prim.Native.Nat.{ℕ, zero, suc, _+_, _-_, _*_, _/_, _%_, _^_, _≤_, _<_}
+use native.Mathlib.Numerals.{add-one, add-two, add-three}
+use native.Mathlib.Omega.{arith}
+use lib.Dec.{eqb, leb, lit<}
+use lib.ListN.{length, getD, take, drop, length-append, length-drop, take-append-drop}
+use lib.Seq.{slice, take-add, take-take, drop-drop, drop-cons, take-all, length-take-le, length-slice}
+use borrow.Author.Tests.{eqb-true, eq-eqb, leb-true, le-leb, lt-ltb}
+use Rattle.crc.specs.Bytes.{Bytes, none, more}
+use Rattle.crc.specs.Crc.{crc}
+use Rattle.frame.specs.declared.Session.{Session}
+use Rattle.frame.specs.declared.Fields.{Fields}
+use Rattle.frame.specs.declared.Fault.{Fault}
+use Rattle.frame.specs.declared.Fault.the-variants.{Length, Copies, CheckWord, Form}
+use Rattle.frame.specs.declared.Reading.{Reading}
+use Rattle.frame.specs.declared.Reading.the-variants.{Frame, Refused}
+use Rattle.frame.specs.Words.{wordOf, wordAt, wordBytes}
+use Rattle.frame.specs.Control.{bit, sessionOf, controlOf, hasForm}
+use Rattle.frame.specs.Reading.{isFrameLength, same, hasCheckWord, fieldsOf, fieldsIn, isFormed, readingOfCopies, readingOf}
+use Rattle.frame.specs.Writing.{timeOf, carryOf, headBytes, withCheckWord, twice, subBytes, frameBytes, isBodyLength, isWritable}
+use Rattle.frame.specs.RoundTrip.{SessionFits, Typed, Writable}
+use Rattle.frame.proofs.Alike.{and-left, and-right, both, same-eq}
+use Rattle.frame.proofs.Lengths.{frame-length, slice-from}
+use Rattle.frame.proofs.Digits.{word-of}
+
+-- ---- what an accepted reading says: a refusal is no frame, so every test has passed
+module _ (f : Fields) (start end : ℕ) where
+  past : (t : Bool) (fault : Fault) (r : Reading) → cond (not t) (Refused fault) r ≡ Frame f start end
+      → (t ≡ true) × (r ≡ Frame f start end)
+  past true fault r h = (refl, h)
+  past false fault r h = let z : _≡_ {A = ℕ} 0 1 = cc in absurd (omega arith)
+
+  record Accepted (a b : List ℕ) : Type 0 where
+    alike : a ≡ b
+    checked : hasCheckWord a ≡ true
+    formed : isFormed (wordAt a 0) (wordAt a 16) (fieldsIn a) ≡ true
+    fields : fieldsIn a ≡ f
+    starts : start ≡ 20
+    ends : end ≡ length a - 4
+
+  accepted : (a b : List ℕ) → readingOfCopies a b ≡ Frame f start end → Accepted a b
+  unfolding readingOfCopies
+  accepted a b h =
+      let p = past (same a b) Copies _ h in
+      let q = past (hasCheckWord a) CheckWord _ (p .1) in
+      let r = past (isFormed (wordAt a 0) (wordAt a 16) (fieldsIn a)) Form _ (q .1) in
+      let e = r .1 in
+      record { alike = same-eq a b (p .0); checked = q .0; formed = r .0; fields = cc; starts = cc; ends = cc }
+
+-- ---- bytes
+byte-at : {s : List ℕ} → Bytes s → (k : ℕ) → getD s k 0 < 256
+byte-at none k = lit< tt
+byte-at (more h r) zero = h
+byte-at (more h r) (suc k) = byte-at r k
+
+take-bytes : {s : List ℕ} (n : ℕ) → Bytes s → Bytes (take n s)
+take-bytes zero r = none
+take-bytes (suc n) none = none
+take-bytes (suc n) (more h r) = more h (take-bytes n r)
+
+drop-bytes : {s : List ℕ} (n : ℕ) → Bytes s → Bytes (drop n s)
+drop-bytes zero r = r
+drop-bytes (suc n) none = none
+drop-bytes (suc n) (more h r) = drop-bytes n r
+
+-- ---- a SubPDU of bytes, put together again from its words and its body
+session-fits : (b : Bool) (v : ℕ) → SessionFits (sessionOf b (v % 65536))
+session-fits true v = omega arith
+session-fits false v = tt
+
+module _ (a : List ℕ) (r : Bytes a) where
+  four : (k : ℕ) → k + 4 ≤ length a
+      → take 4 (drop k a) ≡ (getD a k 0 ∷ getD a (k + 1) 0 ∷ getD a (k + 2) 0 ∷ getD a (k + 3) 0 ∷ [])
+  four k h =
+      rw (add-one, add-two, add-three)
+      (rw (
+        drop-cons a k 0 (omega arith),
+        drop-cons a (suc k) 0 (omega arith),
+        drop-cons a (suc (suc k)) 0 (omega arith),
+        drop-cons a (suc (suc (suc k))) 0 (omega arith),
+      ) refl)
+
+  word-back : (k : ℕ) → k + 4 ≤ length a → wordBytes (wordAt a k) ≡ take 4 (drop k a)
+  word-back k h =
+      word-of (getD a k 0) (getD a (k + 1) 0) (getD a (k + 2) 0) (getD a (k + 3) 0)
+      (byte-at r (k + 1)) (byte-at r (k + 2)) (byte-at r (k + 3))
+      ∙ sym (four k h)
+
+  word-lt : (k : ℕ) → wordAt a k < 2 ^ 32
+  word-lt k = omega (arith, byte-at r k, byte-at r (k + 1), byte-at r (k + 2), byte-at r (k + 3))
+
+  rebuilt : (m : ℕ)
+      → take 4 a ++ (take 4 (drop 4 a) ++ (take 4 (drop 8 a) ++ (take 4 (drop 12 a) ++ (take 4 (drop 16 a) ++ take m (drop 20 a)))))
+      ≡ take (4 + (4 + (4 + (4 + (4 + m))))) a
+  rebuilt m = sym (simp (take-add, drop-drop))
+
+  module _ (long : 28 ≤ length a) (c : hasCheckWord a ≡ true) (g : isFormed (wordAt a 0) (wordAt a 16) (fieldsIn a) ≡ true) where
+    control-back : controlOf (fieldsIn a) ≡ wordAt a 0
+    control-back = sym (eqb-true _ _ (and-left (eqb (wordAt a 0) (controlOf (fieldsIn a))) _ g))
+
+    pub form : hasForm (fieldsIn a) ≡ true
+    form = and-left (hasForm (fieldsIn a)) _ (and-right (eqb (wordAt a 0) (controlOf (fieldsIn a))) _ g)
+
+    reserved-zero : wordAt a 16 ≡ 0
+    reserved-zero =
+        eqb-true (wordAt a 16) 0 (and-right (hasForm (fieldsIn a)) _ (and-right (eqb (wordAt a 0) (controlOf (fieldsIn a))) _ g))
+
+    pub typed : (fieldsIn a .connection < 2 ^ 32) × (fieldsIn a .baseline < 65536) × (fieldsIn a .timestamp < 2 ^ 48)
+        × SessionFits (fieldsIn a .session)
+    unfolding fieldsIn
+    typed = (
+      word-lt 4,
+      omega arith,
+      omega (arith, word-lt 8, word-lt 12),
+      session-fits (bit 16 (wordAt a 0)) (wordAt a 0),
+    )
+
+    body : List ℕ
+    body = take (length a - 24) (drop 20 a)
+
+    same-words : headBytes (controlOf (fieldsIn a)) (fieldsIn a .connection) (timeOf (fieldsIn a)) (carryOf (fieldsIn a)) body
+        ≡ headBytes (wordAt a 0) (wordAt a 4) (wordAt a 8) (wordAt a 12) body
+    unfolding fieldsIn body
+    same-words =
+        let t : timeOf (fieldsIn a) ≡ wordAt a 8 = omega (arith, word-lt 8) in
+        let u : carryOf (fieldsIn a) ≡ wordAt a 12 = omega (arith, word-lt 8) in
+        λ i. headBytes (control-back i) (wordAt a 4) (t i) (u i) (take (length a - 24) (drop 20 a))
+
+    words-back : headBytes (wordAt a 0) (wordAt a 4) (wordAt a 8) (wordAt a 12) body ≡ take (length a - 4) a
+    unfolding headBytes body
+    words-back =
+        let z : wordBytes 0 ≡ take 4 (drop 16 a) = ap wordBytes (sym reserved-zero) ∙ word-back 16 (omega arith) in
+        let n : 4 + (4 + (4 + (4 + (4 + (length a - 24))))) ≡ length a - 4 = omega arith in
+        (λ i. word-back 0 (omega arith) i ++ (word-back 4 (omega arith) i ++ (word-back 8 (omega arith) i
+        ++ (word-back 12 (omega arith) i ++ (z i ++ take (length a - 24) (drop 20 a))))))
+        ∙ rebuilt (length a - 24) ∙ ap (λ (k : ℕ). take k a) n
+
+    pub sub-back : subBytes (fieldsIn a) (take (length a - 24) (drop 20 a)) ≡ a
+    unfolding subBytes withCheckWord hasCheckWord body
+    sub-back =
+        let k : ℕ = length a - 4 in
+        let e = same-words ∙ words-back in
+        (λ i. e i ++ wordBytes (crc (e i)))
+        ∙ ap (λ (v : ℕ). take k a ++ wordBytes v) (eqb-true _ _ c)
+        ∙ ap (λ (l : List ℕ). take k a ++ l) (word-back k (omega arith) ∙ take-all 4 (drop k a) (rw length-drop (omega arith)))
+        ∙ take-append-drop k a
+
+-- ---- both copies
+module _ (s : List ℕ) (r : Bytes s) where
+  Written : Fields → List ℕ → Type 0
+  Written f b = Writable f b × (frameBytes f b ≡ s)
+
+  -- where the reading puts the body, seen from the first copy
+  body-of : (n : ℕ) → 28 ≤ n → n ≤ length s
+      → take (length (take n s) - 24) (drop 20 (take n s)) ≡ slice 20 (length (take n s) - 4) s
+  body-of n g h =
+      let l : length (take n s) ≡ n = length-take-le n s h in
+      let e : 20 + (length (take n s) - 24) ≡ length (take n s) - 4 = omega arith in
+      sym (slice-from 20 (length (take n s) - 24) (take n s) (omega arith))
+      ∙ ap (λ (k : ℕ). slice 20 k (take n s)) e
+      ∙ ap (drop 20) (take-take (length (take n s) - 4) n s (omega arith))
+
+  pub back : (f : Fields) (start end : ℕ) → readingOf s ≡ Frame f start end → Writable f (slice start end s) × (frameBytes f (slice start end s) ≡ s)
+  unfolding readingOf frameBytes twice isWritable Written
+  back f start end h =
+      let n : ℕ = length s / 2 in
+      let a : List ℕ = take n s in
+      let b : List ℕ = take (length a - 24) (drop 20 a) in
+      let p = past f start end (isFrameLength (length s)) Length _ h in
+      let q = accepted f start end a (drop n s) (p .1) in
+      let g = frame-length (length s) (p .0) in
+      let l : length a ≡ n = length-take-le n s (omega arith) in
+      let long : 28 ≤ length a = omega arith in
+      let t = typed a (take-bytes n r) long (q .checked) (q .formed) in
+      let m : length b ≡ length a - 24 = length-take-le (length a - 24) (drop 20 a) (rw length-drop (omega arith)) in
+      let e = sub-back a (take-bytes n r) long (q .checked) (q .formed) in
+      let w : Writable (fieldsIn a) b = record {
+        typed = record {
+          connection = t .0;
+          baseline = t .1;
+          session = t .3;
+          bytes = take-bytes (length a - 24) (drop-bytes 20 (take-bytes n r));
+        };
+        formed = both (form a (take-bytes n r) long (q .checked) (q .formed)) (both (lt-ltb _ _ (t .2)) (both (le-leb 4 (length b) (omega arith))
+            (both (le-leb (length b) 100 (omega arith)) (eq-eqb (length b % 4) 0 (omega arith)))));
+      } in
+      let k : b ≡ slice start end s =
+      body-of n (omega arith) (omega arith) ∙ sym (λ i. slice (q .starts i) (q .ends i) s) in
+      subst (λ (x : List ℕ). Written f x) k
+      (subst (λ (x : Fields). Written x b) (q .fields) (w, ap₂ _++_ e (e ∙ q .alike) ∙ take-append-drop n s))

@@ -1,0 +1,77 @@
+-- Lengths as numbers: of a frame, of a body, of what is written; the rest of a slice.
+use mathlib.Core.Path.{_≡_, sym, ap, _∙_}
+use mathlib.Core.Bool.{true, _&&_}
+use mathlib.Core.List.{List}
+use Prim.Native.Nat.{ℕ, _+_, _-_, _*_, _%_, _^_, _≤_, _<_}
+use native.Mathlib.Nat.{le-refl}
+use native.Mathlib.Omega.{arith}
+use lib.Dec.{eqb, leb, ltb}
+use lib.ListN.{length, take, drop, length-drop, length-append}
+use lib.Seq.{slice, take-all, take-add, drop-at, length-take-le}
+use borrow.Author.Tests.{leb-true, ltb-true, eqb-true}
+use Rattle.crc.specs.Crc.{crc}
+use Rattle.frame.specs.declared.Fields.{Fields}
+use Rattle.frame.specs.Words.{wordBytes}
+use Rattle.frame.specs.Control.{hasForm, controlOf}
+use Rattle.frame.specs.Reading.{isFrameLength}
+use Rattle.frame.specs.Writing.{timeOf, carryOf, headBytes, withCheckWord, twice, subBytes, frameBytes, isBodyLength, isWritable}
+use Rattle.frame.proofs.Alike.{and-left, and-right}
+
+pub record FrameLength (n : ℕ) : Type 0 where
+  pub least : 56 ≤ n
+  pub most : n ≤ 248
+  pub words : n % 8 ≡ 0
+
+pub frame-length : (n : ℕ) → isFrameLength n ≡ true → FrameLength n
+frame-length n h =
+    let m = and-right (leb 56 n) _ h in
+    record {
+      least = leb-true 56 n (and-left (leb 56 n) _ h);
+      most = leb-true n 248 (and-left (leb n 248) _ m);
+      words = eqb-true (n % 8) 0 (and-right (leb n 248) _ m);
+    }
+
+-- ---- what can be written
+pub record CanBeWritten (f : Fields) (n : ℕ) : Type 0 where
+  pub form : hasForm f ≡ true
+  pub timestamp : f .timestamp < 2 ^ 48
+  pub least : 4 ≤ n
+  pub most : n ≤ 100
+  pub words : n % 4 ≡ 0
+
+pub can-be-written : (f : Fields) (n : ℕ) → isWritable f n ≡ true → CanBeWritten f n
+unfolding isWritable
+can-be-written f n h =
+    let t = and-right (hasForm f) _ h in
+    let l = and-right (ltb (f .timestamp) (2 ^ 48)) _ t in
+    let m = and-right (leb 4 n) _ l in
+    record {
+      form = and-left (hasForm f) _ h;
+      timestamp = ltb-true (f .timestamp) (2 ^ 48) (and-left (ltb (f .timestamp) (2 ^ 48)) _ t);
+      least = leb-true 4 n (and-left (leb 4 n) _ l);
+      most = leb-true n 100 (and-left (leb n 100) _ m);
+      words = eqb-true (n % 4) 0 (and-right (leb n 100) _ m);
+    }
+
+-- ---- what is written
+pub length-head : (control cid time cc : ℕ) (body : List ℕ) → length (headBytes control cid time cc body) ≡ 20 + length body
+unfolding headBytes
+length-head control cid time cc body = omega arith
+
+pub length-sub : (f : Fields) (body : List ℕ) → length (subBytes f body) ≡ 24 + length body
+unfolding subBytes withCheckWord
+length-sub f body =
+    let h = headBytes (controlOf f) (f .connection) (timeOf f) (carryOf f) body in
+    length-append h (wordBytes (crc h)) ∙ omega (arith, length-head (controlOf f) (f .connection) (timeOf f) (carryOf f) body)
+
+pub length-frame : (f : Fields) (body : List ℕ) → length (frameBytes f body) ≡ 48 + 2 * length body
+unfolding frameBytes twice
+length-frame f body = length-append (subBytes f body) (subBytes f body) ∙ omega (arith, length-sub f body)
+
+-- ---- parts of a list
+pub slice-from : (k m : ℕ) (l : List ℕ) → k ≤ length l → slice k (k + m) l ≡ take m (drop k l)
+slice-from k m l h = ap (drop k) (take-add k m l) ∙ drop-at (take k l) (take m (drop k l)) k (length-take-le k l h)
+
+-- `&s[h..]` is what is left
+pub tail : (h : ℕ) (s : List ℕ) → take (length s - h) (drop h s) ≡ drop h s
+tail h s = take-all (length s - h) (drop h s) (rw length-drop (le-refl _))

@@ -1,0 +1,87 @@
+-- The CTRL word: commands and their codes, the bits, and the form rule (document 01, "The frame"; number 7).
+use mathlib.Core.Bool.{Bool, true, false, _&&_, _||_, not, cond, Bool·beq}
+use Prim.Native.Nat.{ℕ, _+_, _*_, _/_, _%_, _^_}
+use lib.Dec.{eqb}
+use Rattle.frame.specs.declared.Command.{Command}
+use Rattle.frame.specs.declared.Command.the-variants.{Connect, ConfirmNetwork, VerifyStation, Disconnect, RefreshReady, RefreshGo, Refresh}
+use Rattle.frame.specs.declared.Session.{Session}
+use Rattle.frame.specs.declared.Session.the-variants.{Absent, Number}
+use Rattle.frame.specs.declared.Fields.{Fields}
+
+-- Cmd
+abbrev pub codeOf : Command → ℕ
+codeOf Connect = 0x00
+codeOf ConfirmNetwork = 0x01
+codeOf VerifyStation = 0x02
+codeOf Disconnect = 0xF9
+codeOf RefreshReady = 0xFC
+codeOf RefreshGo = 0xFE
+codeOf Refresh = 0xFF
+
+-- the command of a code; for an unlisted code Refresh stands in, whose own code is another
+abbrev pub commandOf : ℕ → Command
+commandOf code =
+    cond (eqb code 0x00) Connect
+    (cond (eqb code 0x01) ConfirmNetwork
+    (cond (eqb code 0x02) VerifyStation
+    (cond (eqb code 0xF9) Disconnect
+    (cond (eqb code 0xFC) RefreshReady
+    (cond (eqb code 0xFE) RefreshGo Refresh)))))
+
+abbrev pub is : Command → Command → Bool
+is a b = eqb (codeOf a) (codeOf b)
+
+-- Sub CID active, bit 16, and Sub CID
+abbrev pub sessionBits : Session → ℕ
+sessionBits Absent = 0
+sessionBits (Number n) = 65536 + n
+
+abbrev pub sessionOf : Bool → ℕ → Session
+sessionOf true n = Number n
+sessionOf false n = Absent
+
+abbrev pub isAbsent : Session → Bool
+isAbsent Absent = true
+isAbsent (Number n) = false
+
+abbrev pub bit : ℕ → ℕ → Bool
+bit i v = eqb (v / 2 ^ i % 2) 1
+
+-- n where the flag is set
+abbrev pub flag : Bool → ℕ → ℕ
+flag b n = cond b n 0
+
+-- CTRL: Cmd, Ack (bit 23), Busy (22), Error (21), Offset op seq (20), Application (18), Sub CID; MO busy (19) and bit 17 are 0
+unfoldable pub controlOf : Fields → ℕ
+controlOf f =
+    16777216 * codeOf (f .command)
+    + (flag (f .ack) 8388608
+    + (flag (f .busy) 4194304
+    + (flag (f .error) 2097152
+    + (flag (f .sequence) 1048576
+    + (flag (f .application) 262144
+    + sessionBits (f .session))))))
+
+-- Ack: in replies only; S-Refresh and S-Disconnect have none
+abbrev pub ackFits : Fields → Bool
+ackFits f = not (f .ack) || not (is (f .command) Refresh || is (f .command) Disconnect)
+
+-- in every Cmd but S-Refresh, Application equals Ack
+abbrev pub applicationFits : Fields → Bool
+applicationFits f = is (f .command) Refresh || Bool·beq (f .application) (f .ack)
+
+-- Error may be 1 in replies only
+abbrev pub errorFits : Fields → Bool
+errorFits f = not (f .error) || f .ack
+
+-- OBL may be other than 0 in an S-RefreshGO request only
+abbrev pub baselineFits : Fields → Bool
+baselineFits f = eqb (f .baseline) 0 || (is (f .command) RefreshGo && not (f .ack))
+
+-- Busy, Offset op seq and Sub CID are not used
+abbrev pub restIsZero : Fields → Bool
+restIsZero f = not (f .busy) && (not (f .sequence) && isAbsent (f .session))
+
+-- the form rule on fields
+unfoldable pub hasForm : Fields → Bool
+hasForm f = ackFits f && (applicationFits f && (errorFits f && (baselineFits f && restIsZero f)))

@@ -1,0 +1,44 @@
+-- Written frames read back, and an accepted frame is the only writing of its fields.
+use mathlib.Core.Path.{_≡_}
+use mathlib.Core.Bool.{Bool, true}
+use mathlib.Core.List.{List}
+use Prim.Native.Nat.{ℕ, _+_, _^_, _<_}
+use lib.ListN.{length, take}
+use lib.Seq.{slice}
+use Rattle.crc.specs.Bytes.{Bytes}
+use Rattle.frame.specs.declared.Session.{Session}
+use Rattle.frame.specs.declared.Session.the-variants.{Absent, Number}
+use Rattle.frame.specs.declared.Fields.{Fields}
+use Rattle.frame.specs.declared.Reading.the-variants.{Frame}
+use Rattle.frame.specs.Reading.{readingOf}
+use Rattle.frame.specs.Writing.{isWritable, frameBytes, WriteSays}
+
+-- the numbers are within their types: CID of 32 bits, OBL and Sub CID of 16, bytes
+abbrev pub SessionFits : Session → Type 0
+SessionFits Absent = Unit {0}
+SessionFits (Number n) = n < 65536
+
+pub record Typed (f : Fields) (body : List ℕ) : Type 0 where
+  pub connection : f .connection < 2 ^ 32
+  pub baseline : f .baseline < 65536
+  pub session : SessionFits (f .session)
+  pub bytes : Bytes body
+
+pub record Writable (f : Fields) (body : List ℕ) : Type 0 where
+  pub typed : Typed f body
+  pub formed : isWritable f (length body) ≡ true
+
+pub record RoundTrip : Type 0 where
+  -- a written frame has no fault and reads back as its fields, its body where the reading says
+  pub there : (f : Fields) (body : List ℕ) → Writable f body
+      → (readingOf (frameBytes f body) ≡ Frame f 20 (20 + length body))
+      × (slice 20 (20 + length body) (frameBytes f body) ≡ body)
+  -- an accepted list of bytes is what writing its fields gives
+  pub back : (s : List ℕ) (f : Fields) (start end : ℕ) → Bytes s → readingOf s ≡ Frame f start end
+      → Writable f (slice start end s) × (frameBytes f (slice start end s) ≡ s)
+  -- so no two writings are the same bytes
+  pub only : (f g : Fields) (b c : List ℕ) → Writable f b → Writable g c → frameBytes f b ≡ frameBytes g c → (f ≡ g) × (b ≡ c)
+  -- what write_frame wrote, read_frame reads back
+  pub written : (f : Fields) (body out out′ : List ℕ) (count : ℕ) → Typed f body → WriteSays f body out out′ count → 0 < count
+      → (readingOf (take count out′) ≡ Frame f 20 (20 + length body))
+      × (slice 20 (20 + length body) out′ ≡ body)

@@ -1,0 +1,56 @@
+-- Writing a frame over the front of a lent output.
+use mathlib.Core.Path.{_≡_}
+use mathlib.Core.Bool.{Bool, _&&_, cond}
+use mathlib.Core.List.{List, [], _++_}
+use Prim.Native.Nat.{ℕ, _+_, _*_, _/_, _%_, _^_}
+use lib.Dec.{eqb, leb, ltb}
+use lib.ListN.{length}
+use Rattle.crc.specs.Crc.{crc}
+use Rattle.frame.specs.declared.Fields.{Fields}
+use Rattle.frame.specs.Words.{wordBytes}
+use Rattle.frame.specs.Output.{over}
+use Rattle.frame.specs.Control.{controlOf, hasForm}
+
+-- T code, the upper half, and OBL
+abbrev pub timeOf : Fields → ℕ
+timeOf f = 65536 * (f .timestamp % 65536) + f .baseline
+
+-- CC
+abbrev pub carryOf : Fields → ℕ
+carryOf f = f .timestamp / 65536
+
+-- CTRL, CID, T code with OBL, CC, RSV, then the body
+unfoldable pub headBytes : ℕ → ℕ → ℕ → ℕ → List ℕ → List ℕ
+headBytes control cid time cc body =
+    wordBytes control ++ (wordBytes cid ++ (wordBytes time ++ (wordBytes cc ++ (wordBytes 0 ++ body))))
+
+unfoldable pub withCheckWord : List ℕ → List ℕ
+withCheckWord s = s ++ wordBytes (crc s)
+
+unfoldable pub twice : List ℕ → List ℕ
+twice s = s ++ s
+
+-- SubPDU-A, which SubPDU-B equals
+unfoldable pub subBytes : Fields → List ℕ → List ℕ
+subBytes f body = withCheckWord (headBytes (controlOf f) (f .connection) (timeOf f) (carryOf f) body)
+
+unfoldable pub frameBytes : Fields → List ℕ → List ℕ
+frameBytes f body = twice (subBytes f body)
+
+-- a body of 1 to 25 words
+abbrev pub isBodyLength : ℕ → Bool
+isBodyLength n = leb 4 n && (leb n 100 && eqb (n % 4) 0)
+
+-- fields and a body's length that can be written
+unfoldable pub isWritable : Fields → ℕ → Bool
+isWritable f n = hasForm f && (ltb (f .timestamp) (2 ^ 48) && isBodyLength n)
+
+-- what is written to an output of `room` bytes: the frame; nothing where it cannot be written or does not fit
+unfoldable pub writtenOf : Fields → List ℕ → ℕ → List ℕ
+writtenOf f body room =
+    cond (isWritable f (length body) && leb (48 + 2 * length body) room) (frameBytes f body) []
+
+-- what write_frame answers (the count) and leaves in the output
+pub record WriteSays (f : Fields) (body out out′ : List ℕ) (count : ℕ) : Type 0 where
+  pub counted : count ≡ length (writtenOf f body (length out))
+  pub left : out′ ≡ over (writtenOf f body (length out)) out

@@ -1,0 +1,118 @@
+// CTRL: a command's code, the word of the fields, and the form rule.
+ghost use mathlib.Core.Path.{_≡_};
+ghost use Prim.Native.Nat.{_≤_, _<_};
+ghost use Rattle.frame.specs.Control.{codeOf, commandOf, is, sessionBits, sessionOf, isAbsent, flag, controlOf, hasForm};
+use super::Command;
+use super::Fields;
+use super::Session;
+
+fn code_of(command: Command) -> u32
+    ensures { λ r. ⌜ (r ≡ codeOf command) × (r ≤ 255) ⌝ }
+{
+    match command {
+        Command::Connect => 0x00,
+        Command::ConfirmNetwork => 0x01,
+        Command::VerifyStation => 0x02,
+        Command::Disconnect => 0xF9,
+        Command::RefreshReady => 0xFC,
+        Command::RefreshGo => 0xFE,
+        Command::Refresh => 0xFF,
+    }
+}
+
+// The command of a code. For an unlisted code Refresh stands in, whose own code is another.
+pub(crate) fn command_of(code: u32) -> Command
+    ensures { λ r. ⌜ r ≡ commandOf code ⌝ }
+{
+    if code == 0x00 {
+        return Command::Connect;
+    }
+    if code == 0x01 {
+        return Command::ConfirmNetwork;
+    }
+    if code == 0x02 {
+        return Command::VerifyStation;
+    }
+    if code == 0xF9 {
+        return Command::Disconnect;
+    }
+    if code == 0xFC {
+        return Command::RefreshReady;
+    }
+    if code == 0xFE {
+        return Command::RefreshGo;
+    }
+    Command::Refresh
+}
+
+fn is(a: Command, b: Command) -> bool
+    ensures { λ r. ⌜ r ≡ is a b ⌝ }
+{
+    code_of(a) == code_of(b)
+}
+
+fn session_bits(session: Session) -> u32
+    ensures { λ r. ⌜ (r ≡ sessionBits session) × (r < 131072) ⌝ }
+{
+    match session {
+        Session::Absent => 0,
+        Session::Number(n) => 65536 + (n as u32),
+    }
+}
+
+pub(crate) fn session_of(active: bool, number: u16) -> Session
+    ensures { λ r. ⌜ r ≡ sessionOf active number ⌝ }
+{
+    if active {
+        Session::Number(number)
+    } else {
+        Session::Absent
+    }
+}
+
+fn is_absent(session: Session) -> bool
+    ensures { λ r. ⌜ r ≡ isAbsent session ⌝ }
+{
+    match session {
+        Session::Absent => true,
+        Session::Number(_) => false,
+    }
+}
+
+// n where the flag is set.
+fn flag(b: bool, n: u32) -> u32
+    ensures { λ r. ⌜ (r ≡ flag b n) × (r ≤ n) ⌝ }
+{
+    if b { n } else { 0 }
+}
+
+// CTRL of the fields.
+pub(crate) fn control_of(f: Fields) -> u32
+    ensures { λ r. ⌜ r ≡ controlOf f ⌝ }
+{
+    let command = f.command;
+    let session = f.session;
+    16777216 * code_of(command)
+        + (flag(f.ack, 8388608)
+            + (flag(f.busy, 4194304)
+                + (flag(f.error, 2097152)
+                    + (flag(f.sequence, 1048576)
+                        + (flag(f.application, 262144) + session_bits(session))))))
+}
+
+// The form rule on fields.
+pub(crate) fn has_form(f: Fields) -> bool
+    ensures { λ r. ⌜ r ≡ hasForm f ⌝ }
+{
+    let command = f.command;
+    let session = f.session;
+    let refresh = is(command, Command::Refresh);
+    let disconnect = is(command, Command::Disconnect);
+    let go = is(command, Command::RefreshGo);
+    let ack_fits = !f.ack | !(refresh | disconnect);
+    let application_fits = refresh | (f.application == f.ack);
+    let error_fits = !f.error | f.ack;
+    let baseline_fits = (f.baseline == 0) | (go & !f.ack);
+    let rest_is_zero = !f.busy & (!f.sequence & is_absent(session));
+    ack_fits & (application_fits & (error_fits & (baseline_fits & rest_is_zero)))
+}

@@ -1,0 +1,71 @@
+// Frames of FSCP 8/2: the fields that a frame carries, the frame check, reading and writing. Nothing above this crate knows bytes.
+
+mod control;
+pub mod read;
+mod words;
+pub mod write;
+
+// Cmd, bits 31 to 24 of CTRL, with its code.
+pub enum Command {
+    // S-Connect, 0x00
+    Connect,
+    // S-InitConfirmNetPrm, 0x01
+    ConfirmNetwork,
+    // S-InitVerifyStnPrm, 0x02
+    VerifyStation,
+    // S-Disconnect, 0xF9
+    Disconnect,
+    // S-RefreshReady, 0xFC
+    RefreshReady,
+    // S-RefreshGO, 0xFE
+    RefreshGo,
+    // S-Refresh, 0xFF
+    Refresh,
+}
+
+// Sub CID active, bit 16 of CTRL, and Sub CID, bits 15 to 0.
+pub enum Session {
+    Absent,
+    Number(u16),
+}
+
+// What a frame carries beside its body (S-Data).
+pub struct Fields {
+    pub command: Command,
+    pub ack: bool,
+    pub busy: bool,
+    pub error: bool,
+    // Offset op seq
+    pub sequence: bool,
+    // Application: 0 from a master, 1 from a slave
+    pub application: bool,
+    pub session: Session,
+    // CID
+    pub connection: u32,
+    // 48 bits: CC the upper 32, T code the lower 16
+    pub timestamp: u64,
+    // OBL
+    pub baseline: u16,
+}
+
+// Why bytes are no frame. Document 01's number and trade word stand beside each.
+pub enum Fault {
+    // 4, length
+    Length,
+    // 5, copies
+    Copies,
+    // 6, check word
+    CheckWord,
+    // 7, form
+    Form,
+}
+
+// What reading finds: the fields, with the body at bytes start up to end; or the first fault.
+pub enum Reading {
+    Frame {
+        fields: Fields,
+        start: usize,
+        end: usize,
+    },
+    Refused(Fault),
+}
