@@ -1,0 +1,145 @@
+/*
+ * Frame check in plain C, written from document 01 alone: the host test compares
+ * check_frame with it, the benchmark takes it as the baseline.
+ */
+#include "reference.h"
+
+#include <stdbool.h>
+#include <string.h>
+
+#include "folderpink.h"
+
+#define GENERATOR 0x1EDC6F41u
+
+/* Byte offsets in a SubPDU. */
+#define AT_CTRL 0
+#define AT_TCODE_OBL 8
+#define AT_RSV 16
+
+#define CHECK_WORD_SIZE 4
+
+/* CTRL, bits 31 to 24. */
+#define S_CONNECT 0x00u
+#define S_INIT_CONFIRM_NET_PRM 0x01u
+#define S_INIT_VERIFY_STN_PRM 0x02u
+#define S_DISCONNECT 0xF9u
+#define S_REFRESH_READY 0xFCu
+#define S_REFRESH_GO 0xFEu
+#define S_REFRESH 0xFFu
+
+/* CTRL, bits 23 to 0. */
+#define ACK 0x00800000u
+#define BUSY 0x00400000u
+#define ERROR 0x00200000u
+#define OFFSET_OP_SEQ 0x00100000u
+#define MO_BUSY 0x00080000u
+#define APPLICATION 0x00040000u
+#define RESERVED 0x00020000u
+#define SUB_CID_ACTIVE 0x00010000u
+#define SUB_CID 0x0000FFFFu
+
+#define ALWAYS_ZERO (BUSY | OFFSET_OP_SEQ | MO_BUSY | RESERVED | SUB_CID_ACTIVE | SUB_CID)
+
+static uint32_t crc_table[256];
+
+/* RFC 3720 takes each byte lowest bit first, so the generator is used in reversed bit order. */
+static uint32_t reverse_bits(uint32_t word)
+{
+    uint32_t reversed = 0;
+
+    for (unsigned bit = 0; bit < 32; bit++) {
+        reversed = (reversed << 1) | ((word >> bit) & 1u);
+    }
+    return reversed;
+}
+
+void reference_init(void)
+{
+    const uint32_t generator = reverse_bits(GENERATOR);
+
+    for (uint32_t index = 0; index < 256; index++) {
+        uint32_t remainder = index;
+
+        for (unsigned bit = 0; bit < 8; bit++) {
+            remainder = (remainder & 1u) ? (remainder >> 1) ^ generator : remainder >> 1;
+        }
+        crc_table[index] = remainder;
+    }
+}
+
+uint32_t reference_crc32c(const uint8_t *bytes, size_t length)
+{
+    uint32_t crc = 0xFFFFFFFFu;
+
+    for (size_t i = 0; i < length; i++) {
+        crc = (crc >> 8) ^ crc_table[(crc ^ bytes[i]) & 0xFFu];
+    }
+    return ~crc;
+}
+
+static uint32_t read_word(const uint8_t *bytes)
+{
+    return (uint32_t)bytes[0] << 24 | (uint32_t)bytes[1] << 16 | (uint32_t)bytes[2] << 8 | bytes[3];
+}
+
+static bool is_frame_length(size_t length)
+{
+    return length >= 56 && length <= 248 && length % 8 == 0;
+}
+
+static bool is_check_word_right(const uint8_t *subpdu, size_t length)
+{
+    const size_t covered = length - CHECK_WORD_SIZE;
+
+    return reference_crc32c(subpdu, covered) == read_word(subpdu + covered);
+}
+
+static bool is_form_right(const uint8_t *subpdu)
+{
+    const uint32_t ctrl = read_word(subpdu + AT_CTRL);
+    const uint32_t obl = read_word(subpdu + AT_TCODE_OBL) & 0xFFFFu;
+    const bool ack = (ctrl & ACK) != 0;
+    const bool error = (ctrl & ERROR) != 0;
+    const bool application = (ctrl & APPLICATION) != 0;
+
+    if ((ctrl & ALWAYS_ZERO) != 0 || read_word(subpdu + AT_RSV) != 0) {
+        return false;
+    }
+    if (error && !ack) {
+        return false;
+    }
+    switch (ctrl >> 24) {
+    case S_REFRESH:
+        return !ack && obl == 0;
+    case S_DISCONNECT:
+        return !ack && !application && obl == 0;
+    case S_REFRESH_GO:
+        return application == ack && (obl == 0 || !ack);
+    case S_CONNECT:
+    case S_INIT_CONFIRM_NET_PRM:
+    case S_INIT_VERIFY_STN_PRM:
+    case S_REFRESH_READY:
+        return application == ack && obl == 0;
+    default:
+        return false;
+    }
+}
+
+uint8_t reference_check_frame(const uint8_t *bytes, size_t length)
+{
+    const size_t half = length / 2;
+
+    if (!is_frame_length(length)) {
+        return FOLDERPINK_LENGTH;
+    }
+    if (memcmp(bytes, bytes + half, half) != 0) {
+        return FOLDERPINK_COPIES;
+    }
+    if (!is_check_word_right(bytes, half)) {
+        return FOLDERPINK_CHECK_WORD;
+    }
+    if (!is_form_right(bytes)) {
+        return FOLDERPINK_FORM;
+    }
+    return FOLDERPINK_SOUND;
+}
