@@ -45,7 +45,8 @@ pub(crate) fn command_of(code: u32) -> Command
     Command::Refresh
 }
 
-fn is(a: Command, b: Command) -> bool
+// Whether two commands are the same.
+pub fn is(a: Command, b: Command) -> bool
     ensures { λ r. ⌜ r ≡ is a b ⌝ }
 {
     code_of(a) == code_of(b)

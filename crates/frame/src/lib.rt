@@ -1,6 +1,6 @@
 // Frames of FSCP 8/2: the fields that a frame carries, the frame check, reading and writing. Nothing above this crate knows bytes.
 
-mod control;
+pub mod control;
 pub mod read;
 mod words;
 pub mod write;

@@ -18,7 +18,8 @@ fn is_frame_length(n: usize) -> bool
     (56 <= n) & ((n <= 248) & (n % 8 == 0))
 }
 
-fn same(a: &[u8], b: &[u8]) -> bool
+// Whether two slices hold the same bytes.
+pub fn same(a: &[u8], b: &[u8]) -> bool
     ensures { λ r. ⌜ r ≡ same (now (a .entry)) (now (b .entry)) ⌝ }
 {
     if a.len() != b.len() {

@@ -1,0 +1,12 @@
+-- `endpoint::send::requested` meets its contract.
+use borrow.Author.Needs.{needs}
+use Rattle.endpoint.proofs.send.requested.Statement.{statement}
+use Rattle.endpoint.proofs.send.requested.Tie as tie
+
+pub requested-spec : {M : Type 1} → statement M
+requested-spec =
+    tie.close
+    (tie.spec
+    (λ c κs. search needs)
+    (λ c κs. search needs)
+    (λ c. rw (c .stamped .ensures, c .before .stamp-of .ensures)))

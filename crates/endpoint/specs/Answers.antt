@@ -1,0 +1,55 @@
+-- Answers: document 01's numbers, and the first refusal that applies.
+use mathlib.Core.Bool.{Bool, true, false, cond}
+use Prim.Native.Nat.{ℕ}
+use Rattle.endpoint.specs.declared.Reason.{Reason}
+use Rattle.endpoint.specs.declared.Reason.the-variants as R
+use Rattle.endpoint.specs.declared.Answer.{Answer}
+use Rattle.endpoint.specs.declared.Answer.the-variants.{Done, Dropped, Ended}
+use Rattle.endpoint.specs.declared.Faults.{Faults}
+
+abbrev pub reasonNumber : Reason → ℕ
+reasonNumber R.Clock = 1
+reasonNumber R.Buffer = 2
+reasonNumber R.Entry = 3
+reasonNumber R.Length = 4
+reasonNumber R.Copies = 5
+reasonNumber R.CheckWord = 6
+reasonNumber R.Form = 7
+reasonNumber R.Unknown = 8
+reasonNumber R.Expired = 9
+reasonNumber R.Echo = 10
+reasonNumber R.Turn = 11
+reasonNumber R.Width = 12
+reasonNumber R.Repeat = 13
+reasonNumber R.Ahead = 14
+reasonNumber R.Late = 15
+reasonNumber R.Unequal = 16
+reasonNumber R.TooSoon = 17
+reasonNumber R.Settings = 18
+
+-- document 01's number of an answer, 0 for done
+abbrev pub numberOf : Answer → ℕ
+numberOf Done = 0
+numberOf (Dropped r) = reasonNumber r
+numberOf (Ended r) = reasonNumber r
+
+-- the first that applies, in the order of the numbers; 15 and 16 end the connection
+abbrev pub firstOf : Faults → Answer
+firstOf f =
+    cond (f .turn) (Dropped R.Turn)
+    (cond (f .width) (Dropped R.Width)
+    (cond (f .repeat) (Dropped R.Repeat)
+    (cond (f .ahead) (Dropped R.Ahead)
+    (cond (f .late) (Ended R.Late)
+    (cond (f .unequal) (Ended R.Unequal)
+    (cond (f .soon) (Dropped R.TooSoon) Done))))))
+
+abbrev pub isDropped : Answer → Bool
+isDropped Done = false
+isDropped (Dropped r) = true
+isDropped (Ended r) = false
+
+abbrev pub isEnded : Answer → Bool
+isEnded Done = false
+isEnded (Dropped r) = false
+isEnded (Ended r) = true

@@ -1,0 +1,78 @@
+-- Clocks, timestamps and ages (document 01, "Clock and stamp" and "The steps"), and the clock step.
+use mathlib.Core.Bool.{Bool, true, false, _&&_, _||_, not, cond}
+use Prim.Native.Nat.{ℕ, _+_, _-_, _*_, _%_}
+use lib.Dec.{eqb, ltb, leb}
+use lib.ListN.{replicate}
+use Rattle.endpoint.specs.declared.Settings.{Settings}
+use Rattle.endpoint.specs.declared.State.{State}
+use Rattle.endpoint.specs.declared.State.the-variants.{Refresh, Terminate}
+use Rattle.endpoint.specs.declared.Timestamp.{Timestamp}
+use Rattle.endpoint.specs.declared.Timestamp.the-variants.{Never, At}
+use Rattle.endpoint.specs.declared.Value.{Value}
+use Rattle.endpoint.specs.declared.Endpoint.{Endpoint}
+use Rattle.endpoint.specs.Table.{isState, isSetup}
+
+-- 2^48, and half of it
+abbrev pub span : ℕ
+span = 281474976710656
+
+abbrev pub half : ℕ
+half = 140737488355328
+
+-- a − b modulo 2^48
+abbrev pub minus : ℕ → ℕ → ℕ
+minus a b = (a + (span - b % span)) % span
+
+-- an endpoint's time t in the master's clock: what it stamps with, and what it reckons ages by
+abbrev pub masterTime : Bool → ℕ → ℕ → ℕ
+masterTime slave offset t = (t + cond slave offset 0) % span
+
+-- a timestamp above the one remembered, if any
+abbrev pub isAbove : Timestamp → ℕ → Bool
+isAbove Never s = true
+isAbove (At last) s = ltb last s
+
+-- an age of 2^47 or more means that the timestamp is ahead, by what is missing to 2^48
+abbrev pub isAhead : ℕ → Bool
+isAhead age = leb half age
+
+-- ahead by more than the allowance: 0 at a slave, R at a master
+abbrev pub isTooFarAhead : ℕ → ℕ → Bool
+isTooFarAhead age allowance = isAhead age && ltb allowance (span - age)
+
+abbrev pub allowanceOf : Settings → ℕ
+allowanceOf s = cond (s .slave) 0 (s .roundtrip)
+
+-- older than A; ahead counts as age 0
+abbrev pub isTooLate : ℕ → ℕ → Bool
+isTooLate age limit = not (isAhead age) && ltb limit age
+
+-- the slave's ts_offset from S-RefreshGO: stamp − OBL − s2
+abbrev pub offsetFrom : ℕ → ℕ → ℕ → ℕ
+offsetFrom stamp baseline measured = minus (minus stamp baseline) measured
+
+-- a timer has expired when more than its ticks have passed: R in setup, I in Refresh
+abbrev pub isOver : State → ℕ → ℕ → ℕ → Bool
+isOver state roundtrip interval passed = (isSetup state && ltb roundtrip passed) || (isState state Refresh && ltb interval passed)
+
+abbrev pub isExpired : Endpoint → ℕ → Bool
+isExpired e t = isOver (e .state) (e .settings .roundtrip) (e .settings .interval) (t - e .since)
+
+-- no value is held: the fail-safe value
+abbrev pub noValue : Value
+noValue = record { taken = false; bytes = replicate 100 0 }
+
+-- the connection ends: Terminate, and no value is held
+abbrev pub endedOf : Endpoint → Endpoint
+endedOf e = record {
+  settings = e .settings;
+  state = Terminate;
+  since = e .since;
+  timestamps = e .timestamps;
+  setup = e .setup;
+  value = noValue;
+}
+
+-- the clock step of one endpoint
+abbrev pub afterTick : Endpoint → ℕ → Endpoint
+afterTick e t = cond (isExpired e t) (endedOf e) e

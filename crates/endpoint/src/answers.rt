@@ -1,0 +1,90 @@
+// Answers: their numbers, and the first refusal that applies.
+ghost use mathlib.Core.Path.{_≡_};
+ghost use Rattle.endpoint.specs.Answers.{reasonNumber, numberOf, firstOf, isDropped, isEnded};
+use super::Answer;
+use super::Faults;
+use super::Reason;
+
+pub fn reason_number(reason: Reason) -> u8
+    ensures { λ r. ⌜ r ≡ reasonNumber reason ⌝ }
+{
+    match reason {
+        Reason::Clock => 1,
+        Reason::Buffer => 2,
+        Reason::Entry => 3,
+        Reason::Length => 4,
+        Reason::Copies => 5,
+        Reason::CheckWord => 6,
+        Reason::Form => 7,
+        Reason::Unknown => 8,
+        Reason::Expired => 9,
+        Reason::Echo => 10,
+        Reason::Turn => 11,
+        Reason::Width => 12,
+        Reason::Repeat => 13,
+        Reason::Ahead => 14,
+        Reason::Late => 15,
+        Reason::Unequal => 16,
+        Reason::TooSoon => 17,
+        Reason::Settings => 18,
+    }
+}
+
+// Document 01's number of an answer, 0 for done.
+pub fn number(answer: Answer) -> u8
+    ensures { λ r. ⌜ r ≡ numberOf answer ⌝ }
+{
+    match answer {
+        Answer::Done => 0,
+        Answer::Dropped(reason) => reason_number(reason),
+        Answer::Ended(reason) => reason_number(reason),
+    }
+}
+
+// The first that applies, in the order of the numbers.
+pub(crate) fn first_of(f: Faults) -> Answer
+    ensures { λ r. ⌜ r ≡ firstOf f ⌝ }
+{
+    if f.turn {
+        return Answer::Dropped(Reason::Turn);
+    }
+    if f.width {
+        return Answer::Dropped(Reason::Width);
+    }
+    if f.repeat {
+        return Answer::Dropped(Reason::Repeat);
+    }
+    if f.ahead {
+        return Answer::Dropped(Reason::Ahead);
+    }
+    if f.late {
+        return Answer::Ended(Reason::Late);
+    }
+    if f.unequal {
+        return Answer::Ended(Reason::Unequal);
+    }
+    if f.soon {
+        return Answer::Dropped(Reason::TooSoon);
+    }
+    Answer::Done
+}
+
+pub(crate) fn is_dropped(answer: Answer) -> bool
+    ensures { λ r. ⌜ r ≡ isDropped answer ⌝ }
+{
+    match answer {
+        Answer::Done => false,
+        Answer::Dropped(_) => true,
+        Answer::Ended(_) => false,
+    }
+}
+
+pub(crate) fn is_ended(answer: Answer) -> bool
+    ensures { λ r. ⌜ r ≡ isEnded answer ⌝ }
+{
+    match answer {
+        Answer::Done => false,
+        Answer::Dropped(_) => false,
+        Answer::Ended(_) => true,
+    }
+}

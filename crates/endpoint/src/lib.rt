@@ -1,0 +1,160 @@
+// One connection's end, as master or as slave, by value: what it sends, takes and shows, its timers and timestamps.
+// It knows fields and no offsets of bytes, and nothing of the table that holds it.
+
+pub mod answers;
+pub mod deliver;
+mod requests;
+pub mod send;
+pub mod show;
+pub mod table;
+pub mod time;
+pub mod turns;
+
+// What a connection was set up with.
+pub struct Settings {
+    // CID
+    pub connection: u32,
+    // role
+    pub slave: bool,
+    // M and S: the words that the master sends, and the slave. A count outside 1 to 25 is taken for 1.
+    pub masterwords: u8,
+    pub slavewords: u8,
+    // I, R and A, in ticks
+    pub interval: u32,
+    pub roundtrip: u32,
+    pub age: u32,
+    // station word
+    pub station: u32,
+}
+
+// The states of 001's table 40, for both roles. A master mirrors the slave: the matching reply moves it. Starting is a master's
+// before its first reply.
+pub enum State {
+    Close,
+    Starting,
+    EstablishPending,
+    Establish,
+    ParamVerify,
+    RefreshPending,
+    Refresh,
+    Terminate,
+}
+
+// A timestamp that is remembered, if any.
+pub enum Timestamp {
+    Never,
+    At(u64),
+}
+
+// What is remembered of timestamps; it survives restart. Sent: a master's last, a slave's last in S-Refresh. Accepted: a slave's
+// last in any frame, a master's last in S-Refresh.
+pub struct Timestamps {
+    pub sent: Timestamp,
+    pub accepted: Timestamp,
+}
+
+// A master's request that waits for its reply, by its timestamp. Its command is the one due in the state.
+pub enum Pending {
+    Nothing,
+    Asked(u64),
+}
+
+// Setup. Measured: s2 at a slave, m2 at a master. Offset: a slave's ts_offset.
+pub struct Setup {
+    pub pending: Pending,
+    pub measured: u64,
+    pub offset: u64,
+}
+
+// The last value accepted in this Refresh, with zeros after it; the fail-safe value [0; 100] where there is none.
+pub struct Value {
+    pub taken: bool,
+    pub bytes: [u8; 100],
+}
+
+pub struct Endpoint {
+    pub settings: Settings,
+    pub state: State,
+    // where the timer starts
+    pub since: u64,
+    pub timestamps: Timestamps,
+    pub setup: Setup,
+    pub value: Value,
+}
+
+// Why a call is refused: document 01's number and trade word stand beside each.
+pub enum Reason {
+    // 1, clock
+    Clock,
+    // 2, buffer
+    Buffer,
+    // 3, entry
+    Entry,
+    // 4, length
+    Length,
+    // 5, copies
+    Copies,
+    // 6, check word
+    CheckWord,
+    // 7, form
+    Form,
+    // 8, stranger
+    Unknown,
+    // 9, expired
+    Expired,
+    // 10, echo
+    Echo,
+    // 11, turn
+    Turn,
+    // 12, width
+    Width,
+    // 13, repeat
+    Repeat,
+    // 14, ahead
+    Ahead,
+    // 15, late
+    Late,
+    // 16, unequal
+    Unequal,
+    // 17, too soon
+    TooSoon,
+    // 18, settings
+    Settings,
+}
+
+// Done; refused; or refused with the connection ended.
+pub enum Answer {
+    Done,
+    Dropped(Reason),
+    Ended(Reason),
+}
+
+// What applies of the refusals 11 to 17.
+pub struct Faults {
+    pub turn: bool,
+    pub width: bool,
+    pub repeat: bool,
+    pub ahead: bool,
+    pub late: bool,
+    pub unequal: bool,
+    pub soon: bool,
+}
+
+// A call's answer, the endpoint it leaves, and the bytes written to the lent output.
+pub struct Stepped {
+    pub answer: Answer,
+    pub endpoint: Endpoint,
+    pub count: usize,
+}
+
+// A show's count of bytes, and the mark 'fail-safe'.
+pub struct Shown {
+    pub count: usize,
+    pub failsafe: bool,
+}
+
+// The state that a command leads to, or that the state does not take it.
+pub enum Next {
+    To(State),
+    No,
+}

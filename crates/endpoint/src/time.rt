@@ -1,0 +1,156 @@
+// Clocks, timestamps and ages, and the clock step.
+ghost use mathlib.Core.Path.{_≡_};
+ghost use Prim.Native.Nat.{_-_, _+_, _%_};
+ghost use Rattle.endpoint.specs.Time.{span, minus, masterTime, isAbove, isTooFarAhead, allowanceOf, isTooLate, offsetFrom, isOver, isExpired, noValue, endedOf, afterTick};
+use super::Endpoint;
+use super::Settings;
+use super::State;
+use super::Timestamp;
+use super::Value;
+use super::table::is_setup;
+use super::table::is_state;
+
+// Ticks from since to clock, 0 where clock is below.
+pub(crate) fn passed(clock: u64, since: u64) -> u64
+    ensures { λ r. ⌜ r ≡ clock - since ⌝ }
+{
+    if clock < since { 0 } else { clock - since }
+}
+
+// a less b, modulo 2^48.
+pub(crate) fn minus(a: u64, b: u64) -> u64
+    ensures { λ r. ⌜ r ≡ minus a b ⌝ }
+{
+    let x = a % 281474976710656;
+    let y = b % 281474976710656;
+    if y <= x {
+        x - y
+    } else {
+        x + 281474976710656 - y
+    }
+}
+
+// A slave's clock in the master's, in the order of 001's 12.7.1.4: the T code by a sum of 16 bits, its carry into CC.
+fn slave_timestamp(clock: u64, offset: u64) -> u64
+    ensures { λ r. ⌜ r ≡ (clock + offset) % span ⌝ }
+{
+    let low = (clock % 65536) as u16;
+    let code = std::num::wrapping_add_u16(low, (offset % 65536) as u16);
+    let high = clock / 65536 + offset / 65536;
+    if code < low {
+        return 65536 * ((high + 1) % 4294967296) + (code as u64);
+    }
+    65536 * (high % 4294967296) + (code as u64)
+}
+
+// An endpoint's clock in the master's, to reckon an age by.
+pub(crate) fn master_time(slave: bool, offset: u64, clock: u64) -> u64
+    ensures { λ r. ⌜ r ≡ masterTime slave offset clock ⌝ }
+{
+    if slave {
+        return std::num::wrapping_add_u64(clock, offset) % 281474976710656;
+    }
+    clock % 281474976710656
+}
+
+// The timestamp of what an endpoint sends.
+pub(crate) fn timestamp(slave: bool, offset: u64, clock: u64) -> u64
+    ensures { λ r. ⌜ r ≡ masterTime slave offset clock ⌝ }
+{
+    if slave {
+        return slave_timestamp(clock, offset);
+    }
+    clock % 281474976710656
+}
+
+pub(crate) fn is_above(last: Timestamp, stamp: u64) -> bool
+    ensures { λ r. ⌜ r ≡ isAbove last stamp ⌝ }
+{
+    match last {
+        Timestamp::Never => true,
+        Timestamp::At(x) => x < stamp,
+    }
+}
+
+// Ahead by more than the allowance.
+pub(crate) fn is_too_far_ahead(age: u64, allowance: u32) -> bool
+    ensures { λ r. ⌜ r ≡ isTooFarAhead age allowance ⌝ }
+{
+    (140737488355328 <= age) & ((allowance as u64) < passed(281474976710656, age))
+}
+
+pub(crate) fn allowance(s: Settings) -> u32
+    ensures { λ r. ⌜ r ≡ allowanceOf s ⌝ }
+{
+    if s.slave { 0 } else { s.roundtrip }
+}
+
+pub(crate) fn is_too_late(age: u64, limit: u32) -> bool
+    ensures { λ r. ⌜ r ≡ isTooLate age limit ⌝ }
+{
+    !(140737488355328 <= age) & ((limit as u64) < age)
+}
+
+// ts_offset from an S-RefreshGO.
+pub(crate) fn offset_from(stamp: u64, baseline: u16, measured: u64) -> u64
+    ensures { λ r. ⌜ r ≡ offsetFrom stamp baseline measured ⌝ }
+{
+    minus(minus(stamp, baseline as u64), measured)
+}
+
+// Whether more ticks have passed than the state's timer has.
+fn is_over(state: State, roundtrip: u32, interval: u32, passed: u64) -> bool
+    ensures { λ r. ⌜ r ≡ isOver state roundtrip interval passed ⌝ }
+{
+    (is_setup(state) & ((roundtrip as u64) < passed))
+        | (is_state(state, State::Refresh) & ((interval as u64) < passed))
+}
+
+// Whether a clock reading ends the connection: its timer has expired.
+pub fn expired(e: Endpoint, clock: u64) -> bool
+    ensures { λ r. ⌜ r ≡ isExpired e clock ⌝ }
+{
+    let state = e.state;
+    is_over(
+        state,
+        e.settings.roundtrip,
+        e.settings.interval,
+        passed(clock, e.since),
+    )
+}
+
+pub(crate) fn no_value() -> Value
+    ensures { λ r. ⌜ r ≡ noValue ⌝ }
+{
+    Value {
+        taken: false,
+        bytes: [0; 100],
+    }
+}
+
+// The endpoint in Terminate, with no value held.
+pub(crate) fn ended(e: Endpoint) -> Endpoint
+    ensures { λ r. ⌜ r ≡ endedOf e ⌝ }
+{
+    let settings = e.settings;
+    let timestamps = e.timestamps;
+    let setup = e.setup;
+    Endpoint {
+        settings: settings,
+        state: State::Terminate,
+        since: e.since,
+        timestamps: timestamps,
+        setup: setup,
+        value: no_value(),
+    }
+}
+
+// The clock step: the endpoint ended where its timer has expired, else as it was.
+pub fn tick(e: Endpoint, clock: u64) -> Endpoint
+    ensures { λ r. ⌜ r ≡ afterTick e clock ⌝ }
+{
+    if expired(e, clock) {
+        return ended(e);
+    }
+    e
+}
