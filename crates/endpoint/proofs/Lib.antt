@@ -1,10 +1,3 @@
 -- Laws that serve several functions.
-pub mod Copies
-pub mod Data
-pub mod Dispatch
 pub mod Entries
-pub mod Firsts
-pub mod Outcomes
-pub mod Shows
 pub mod Sums
-pub mod Whole

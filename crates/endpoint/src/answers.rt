@@ -42,7 +42,7 @@ pub fn number(answer: Answer) -> u8
 }
 
 // The first that applies, in the order of the numbers.
-pub(crate) fn first_of(f: Faults) -> Answer
+pub fn first_of(f: Faults) -> Answer
     ensures { λ r. ⌜ r ≡ firstOf f ⌝ }
 {
     if f.turn {
@@ -69,7 +69,7 @@ pub(crate) fn first_of(f: Faults) -> Answer
     Answer::Done
 }
 
-pub(crate) fn is_dropped(answer: Answer) -> bool
+pub fn is_dropped(answer: Answer) -> bool
     ensures { λ r. ⌜ r ≡ isDropped answer ⌝ }
 {
     match answer {
@@ -79,7 +79,7 @@ pub(crate) fn is_dropped(answer: Answer) -> bool
     }
 }
 
-pub(crate) fn is_ended(answer: Answer) -> bool
+pub fn is_ended(answer: Answer) -> bool
     ensures { λ r. ⌜ r ≡ isEnded answer ⌝ }
 {
     match answer {

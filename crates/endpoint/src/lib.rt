@@ -1,14 +1,9 @@
-// One connection's end, as master or as slave, by value: what it sends, takes and shows, its timers and timestamps.
-// It knows fields and no offsets of bytes, and nothing of the table that holds it.
+// One connection's end, as master or as slave: its record, the table of its states, its timers, timestamps and ages, and the
+// answers that calls on it get. The calls themselves are in the crate steps.
 
 pub mod answers;
-pub mod deliver;
-mod requests;
-pub mod send;
-pub mod show;
 pub mod table;
 pub mod time;
-pub mod turns;
 
 // What a connection was set up with.
 pub struct Settings {
@@ -138,19 +133,6 @@ pub struct Faults {
     pub late: bool,
     pub unequal: bool,
     pub soon: bool,
-}
-
-// A call's answer, the endpoint it leaves, and the bytes written to the lent output.
-pub struct Stepped {
-    pub answer: Answer,
-    pub endpoint: Endpoint,
-    pub count: usize,
-}
-
-// A show's count of bytes, and the mark 'fail-safe'.
-pub struct Shown {
-    pub count: usize,
-    pub failsafe: bool,
 }
 
 // The state that a command leads to, or that the state does not take it.

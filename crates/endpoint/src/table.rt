@@ -103,14 +103,14 @@ fn column(k: Command) -> usize
     }
 }
 
-pub(crate) fn is_state(a: State, b: State) -> bool
+pub fn is_state(a: State, b: State) -> bool
     ensures { λ r. ⌜ r ≡ isState a b ⌝ }
 {
     state_number(a) == state_number(b)
 }
 
 // Setup is all between Close and Refresh.
-pub(crate) fn is_setup(s: State) -> bool
+pub fn is_setup(s: State) -> bool
     ensures { λ r. ⌜ r ≡ isSetup s ⌝ }
 {
     match s {
@@ -133,7 +133,7 @@ pub fn next_state(k: Command, s: State) -> Next
     NEXT[i]
 }
 
-pub(crate) fn is_no(next: Next) -> bool
+pub fn is_no(next: Next) -> bool
     ensures { λ r. ⌜ r ≡ isNo next ⌝ }
 {
     match next {
@@ -142,7 +142,7 @@ pub(crate) fn is_no(next: Next) -> bool
     }
 }
 
-pub(crate) fn state_to(next: Next, last: State) -> State
+pub fn state_to(next: Next, last: State) -> State
     ensures { λ r. ⌜ r ≡ stateTo next last ⌝ }
 {
     match next {
@@ -152,7 +152,7 @@ pub(crate) fn state_to(next: Next, last: State) -> State
 }
 
 // The request that is due from a master in a setup state.
-pub(crate) fn request_of(s: State) -> Command
+pub fn request_of(s: State) -> Command
     ensures { λ r. ⌜ r ≡ requestOf s ⌝ }
 {
     match s {

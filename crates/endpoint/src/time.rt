@@ -11,14 +11,14 @@ use super::table::is_setup;
 use super::table::is_state;
 
 // Ticks from since to clock, 0 where clock is below.
-pub(crate) fn passed(clock: u64, since: u64) -> u64
+pub fn passed(clock: u64, since: u64) -> u64
     ensures { λ r. ⌜ r ≡ clock - since ⌝ }
 {
     if clock < since { 0 } else { clock - since }
 }
 
 // a less b, modulo 2^48.
-pub(crate) fn minus(a: u64, b: u64) -> u64
+pub fn minus(a: u64, b: u64) -> u64
     ensures { λ r. ⌜ r ≡ minus a b ⌝ }
 {
     let x = a % 281474976710656;
@@ -44,7 +44,7 @@ fn slave_timestamp(clock: u64, offset: u64) -> u64
 }
 
 // An endpoint's clock in the master's, to reckon an age by.
-pub(crate) fn master_time(slave: bool, offset: u64, clock: u64) -> u64
+pub fn master_time(slave: bool, offset: u64, clock: u64) -> u64
     ensures { λ r. ⌜ r ≡ masterTime slave offset clock ⌝ }
 {
     if slave {
@@ -54,7 +54,7 @@ pub(crate) fn master_time(slave: bool, offset: u64, clock: u64) -> u64
 }
 
 // The timestamp of what an endpoint sends.
-pub(crate) fn timestamp(slave: bool, offset: u64, clock: u64) -> u64
+pub fn timestamp(slave: bool, offset: u64, clock: u64) -> u64
     ensures { λ r. ⌜ r ≡ masterTime slave offset clock ⌝ }
 {
     if slave {
@@ -63,7 +63,7 @@ pub(crate) fn timestamp(slave: bool, offset: u64, clock: u64) -> u64
     clock % 281474976710656
 }
 
-pub(crate) fn is_above(last: Timestamp, stamp: u64) -> bool
+pub fn is_above(last: Timestamp, stamp: u64) -> bool
     ensures { λ r. ⌜ r ≡ isAbove last stamp ⌝ }
 {
     match last {
@@ -73,26 +73,26 @@ pub(crate) fn is_above(last: Timestamp, stamp: u64) -> bool
 }
 
 // Ahead by more than the allowance.
-pub(crate) fn is_too_far_ahead(age: u64, allowance: u32) -> bool
+pub fn is_too_far_ahead(age: u64, allowance: u32) -> bool
     ensures { λ r. ⌜ r ≡ isTooFarAhead age allowance ⌝ }
 {
     (140737488355328 <= age) & ((allowance as u64) < passed(281474976710656, age))
 }
 
-pub(crate) fn allowance(s: Settings) -> u32
+pub fn allowance(s: Settings) -> u32
     ensures { λ r. ⌜ r ≡ allowanceOf s ⌝ }
 {
     if s.slave { 0 } else { s.roundtrip }
 }
 
-pub(crate) fn is_too_late(age: u64, limit: u32) -> bool
+pub fn is_too_late(age: u64, limit: u32) -> bool
     ensures { λ r. ⌜ r ≡ isTooLate age limit ⌝ }
 {
     !(140737488355328 <= age) & ((limit as u64) < age)
 }
 
 // ts_offset from an S-RefreshGO.
-pub(crate) fn offset_from(stamp: u64, baseline: u16, measured: u64) -> u64
+pub fn offset_from(stamp: u64, baseline: u16, measured: u64) -> u64
     ensures { λ r. ⌜ r ≡ offsetFrom stamp baseline measured ⌝ }
 {
     minus(minus(stamp, baseline as u64), measured)
@@ -119,7 +119,7 @@ pub fn expired(e: Endpoint, clock: u64) -> bool
     )
 }
 
-pub(crate) fn no_value() -> Value
+pub fn no_value() -> Value
     ensures { λ r. ⌜ r ≡ noValue ⌝ }
 {
     Value {
@@ -129,7 +129,7 @@ pub(crate) fn no_value() -> Value
 }
 
 // The endpoint in Terminate, with no value held.
-pub(crate) fn ended(e: Endpoint) -> Endpoint
+pub fn ended(e: Endpoint) -> Endpoint
     ensures { λ r. ⌜ r ≡ endedOf e ⌝ }
 {
     let settings = e.settings;

@@ -1,0 +1,60 @@
+-- What an answer says of the tests before it.
+use mathlib.Core.Path.{_≡_, refl}
+use mathlib.Core.Bool.{Bool, true, false, _&&_, _||_, not, cond, true≢false, false≢true}
+use mathlib.Core.List.{List}
+use Prim.Native.Nat.{ℕ}
+use lib.ListN.{length}
+use Rattle.frame.specs.declared.Fields.{Fields}
+use lib.Dec.{eqb}
+use borrow.Author.Tests.{eqb-true, not-false}
+use Rattle.endpoint.specs.declared.State.the-variants.{Refresh}
+use Rattle.endpoint.specs.declared.Endpoint.{Endpoint}
+use Rattle.endpoint.specs.declared.Reason.{Reason}
+use Rattle.endpoint.specs.declared.Reason.the-variants as R
+use Rattle.endpoint.specs.declared.Answer.{Answer}
+use Rattle.endpoint.specs.declared.Answer.the-variants.{Done, Dropped, Ended}
+use Rattle.endpoint.specs.declared.Faults.{Faults}
+use Rattle.endpoint.specs.Answers.{firstOf, isDropped}
+use Rattle.endpoint.specs.Table.{isState}
+use Rattle.steps.specs.Frames.{sendWidth, setupData}
+use Rattle.steps.specs.Calls.{sendFaults}
+use Rattle.steps.specs.Deliveries.{requestFaults}
+
+-- an answer that is not dropped is past each test that drops
+past : (b : Bool) (r : Reason) (x : Answer) → isDropped (cond b (Dropped r) x) ≡ false → (b ≡ false) × (isDropped x ≡ false)
+past true r x h = absurd (true≢false h)
+past false r x h = (refl, h)
+
+pub record NotDropped (f : Faults) : Type 0 where
+  pub turn : f .turn ≡ false
+  pub width : f .width ≡ false
+  pub repeat : f .repeat ≡ false
+  pub ahead : f .ahead ≡ false
+
+pub not-dropped : (f : Faults) → isDropped (firstOf f) ≡ false → NotDropped f
+not-dropped f h =
+    let t = past (f .turn) R.Turn _ h in
+    let w = past (f .width) R.Width _ (t .1) in
+    let p = past (f .repeat) R.Repeat _ (w .1) in
+    let a = past (f .ahead) R.Ahead _ (p .1) in
+    record { turn = t .0; width = w .0; repeat = p .0; ahead = a .0 }
+
+-- a send in Refresh that is not dropped has a value of the right length
+pub sent-width : (e : Endpoint) (t n : ℕ) → isState (e .state) Refresh ≡ true → isDropped (firstOf (sendFaults e t n)) ≡ false
+    → n ≡ sendWidth (e .settings)
+sent-width e t n r h =
+    let w : (isState (e .state) Refresh && not (eqb n (sendWidth (e .settings)))) ≡ false = not-dropped (sendFaults e t n) h .width in
+    let v : not (eqb n (sendWidth (e .settings))) ≡ false = rw r at w in
+    eqb-true n (sendWidth (e .settings)) (not-false (eqb n (sendWidth (e .settings))) v)
+
+-- a request that is not dropped has data of the right length
+pub request-width : (e : Endpoint) (f : Fields) (body : List ℕ) → isDropped (firstOf (requestFaults e f body)) ≡ false
+    → length body ≡ length (setupData (e .settings) (f .command))
+request-width e f body h =
+    let n = length (setupData (e .settings) (f .command)) in
+    eqb-true (length body) n (not-false (eqb (length body) n) (not-dropped (requestFaults e f body) h .width))
+
+-- neither of two
+pub neither : (a b : Bool) → (a || b) ≡ false → (a ≡ false) × (b ≡ false)
+neither true b h = absurd (true≢false h)
+neither false b h = (refl, h)

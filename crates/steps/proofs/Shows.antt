@@ -1,0 +1,44 @@
+-- What a show writes: too little room, or the value's width of bytes.
+use mathlib.Core.Path.{_≡_, refl, sym, ap, ap₂, _∙_}
+use mathlib.Core.Bool.{Bool, true, cond, _&&_}
+use mathlib.Core.List.{List, [], _++_}
+use Prim.Native.Nat.{ℕ, _%_, _≤_, _<_}
+use native.Mathlib.Omega.{arith}
+use lib.Dec.{ltb, leb}
+use lib.ListN.{length, take, drop}
+use lib.Seq.{length-take-le}
+use borrow.Author.Tests.{lt-ltb, le-ltb, leb-true}
+use Rattle.frame.specs.Output.{over}
+use Rattle.frame.proofs.Alike.{and-left, and-right}
+use Rattle.endpoint.specs.declared.Settings.{Settings}
+use Rattle.endpoint.specs.declared.Endpoint.{Endpoint}
+use Rattle.steps.specs.declared.Shown.{Shown}
+use Rattle.steps.specs.Frames.{showWidth}
+use Rattle.steps.specs.Calls.{isFailSafe, heldOr, shownOf}
+use Rattle.steps.specs.Says.{shownTo, ShowSays}
+use Rattle.steps.proofs.Whole.{show-width-length}
+
+pub show-width-le : (s : Settings) → showWidth s ≤ 100
+show-width-le s =
+    leb-true (showWidth s) 100 (and-left (leb (showWidth s) 100) _ (and-right (leb 4 (showWidth s)) _ (show-width-length s)))
+
+module _ (e : Endpoint) (out : List ℕ) where
+  pub no-room : (r : Shown) → length out < 248 → r .count ≡ 0 → r .failsafe ≡ isFailSafe e → ShowSays e out out r
+  unfolding over
+  no-room r h n m = let t = lt-ltb (length out) 248 h in record { counted = rw t n; marked = m; output = rw t }
+
+  pub shown : (r : Shown) (x : List ℕ) {out′ : List ℕ} → 248 ≤ length out → r .count ≡ showWidth (e .settings)
+      → r .failsafe ≡ isFailSafe e → x ≡ heldOr (isFailSafe e) (e .value .bytes) → length x ≡ 100
+      → out′ ≡ take (r .count) x ++ drop (r .count) out → ShowSays e out out′ r
+  unfolding over
+  shown r x h n m v l o =
+      let t = le-ltb (length out) 248 h in
+      let w = show-width-le (e .settings) in
+      let k : take (r .count) x ≡ shownOf e = ap₂ take n v in
+      let q : length (take (r .count) x) ≡ r .count = length-take-le (r .count) x (omega arith) in
+      let s : r .count ≡ length (shownOf e) = sym q ∙ ap length k in
+      record {
+        counted = rw t s;
+        marked = m;
+        output = rw t (o ∙ ap₂ (λ (y : List ℕ) (z : ℕ). y ++ drop z out) k s);
+      }

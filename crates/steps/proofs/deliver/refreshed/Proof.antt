@@ -1,0 +1,11 @@
+-- `steps::deliver::refreshed` meets its contract.
+use borrow.Author.Needs.{needs}
+use Rattle.steps.proofs.deliver.refreshed.Statement.{statement}
+use Rattle.steps.proofs.deliver.refreshed.Tie as tie
+
+pub refreshed-spec : {M : Type 1} → statement M
+refreshed-spec =
+    tie.close
+    (tie.spec
+    (λ c κs. search needs)
+    (λ c. rw (c .accepted .ensures)))

@@ -1,0 +1,14 @@
+-- `steps::deliver::taken` meets its contract.
+use borrow.Author.Needs.{needs}
+use Rattle.steps.proofs.deliver.taken.Statement.{statement}
+use Rattle.steps.proofs.deliver.taken.Tie as tie
+
+pub taken-spec : {M : Type 1} → statement M
+taken-spec =
+    tie.close
+    (tie.spec
+    (λ c κs. search needs)
+    (λ c κs. search needs)
+    (λ c. rw (c .ended-by .ensures, ← c .before .before .is .ensures, c .before .if1 .taken))
+    (λ c κs. search needs)
+    (λ c. rw (c .advanced .ensures, ← c .before .before .is .ensures, c .before .if1 .left)))

@@ -1,0 +1,12 @@
+-- `steps::send::may_request` meets its contract.
+use borrow.Author.Needs.{needs}
+use Rattle.steps.proofs.send.may_request.Statement.{statement}
+use Rattle.steps.proofs.send.may_request.Tie as tie
+
+pub may-request-spec : {M : Type 1} → statement M
+may-request-spec =
+    tie.close
+    (tie.spec
+    (λ c κs. search needs)
+    (λ c κs. search needs)
+    (λ c. rw (c .is-nothing .ensures, c .before .is-setup .ensures)))

@@ -1,0 +1,111 @@
+-- `steps::send::send` meets its contract: too little room, refused, S-Refresh, a request.
+use borrow.Author.Needs.{needs}
+use lib.ListN.{length}
+use mathlib.Core.Bool.{true}
+use mathlib.Core.Path.{_≡_, sym, ap, _∙_}
+use Rattle.steps.proofs.Firsts.{sent-width}
+use Rattle.steps.proofs.Outcomes.{short, quiet, loud}
+use Rattle.steps.proofs.Whole.{request-writable, refresh-writable, send-width-length}
+use Rattle.steps.specs.Calls.{outcome, sendOf, requestedOf, refreshSentOf}
+use Rattle.steps.specs.Frames.{nothing, written, setupData, sendWidth, requestFields, refreshFields}
+use Rattle.endpoint.specs.Table.{requestOf}
+use Rattle.endpoint.specs.declared.Answer.the-variants.{Done}
+use Rattle.frame.specs.Writing.{isBodyLength}
+use Rattle.steps.proofs.send.send.Statement.{statement}
+use Rattle.steps.proofs.send.send.Tie as tie
+
+returns : tie.Need-returns
+returns c =
+    let a = c .before .before .before .before .args in
+    short (a .out .now) (a .e) (sendOf (a .e) (a .clock) (a .value .now)) (c .before .if1 .taken) (c .stepped .ensures)
+
+returns-2 : tie.Need-returns-2
+returns-2 c =
+    let d = c .before .before in
+    let s = d .before in
+    let a = s .before .before .before .before .args in
+    let r = s .send-answer .result in
+    let o = sendOf (a .e) (a .clock) (a .value .now) in
+    let q : o ≡ outcome r (a .e) nothing =
+    rw (← s .send-answer .ensures, ← d .is-dropped .ensures, c .before .if2 .taken) in
+    quiet (a .out .now) (a .e) o (s .before .if1 .left) r (a .e) q (c .stepped2 .ensures)
+
+write-whole-requires : tie.Need-write-whole-requires
+write-whole-requires c κs =
+    let f = c .before in
+    let i = f .before .before in
+    let d = i .before .before .before in
+    let s = d .before in
+    let a = s .before .before .before .before .args in
+    let n = length (a .value .now) in
+    let w : n ≡ sendWidth (a .e .settings) =
+    sent-width (a .e) (a .clock) n (sym (i .is-state .ensures) ∙ f .before .if3 .taken)
+    (rw (← s .send-answer .ensures) (sym (d .is-dropped .ensures) ∙ i .before .before .if2 .left)) in
+    (s .before .if1 .left, rw (f .refresh-fields .ensures) (refresh-writable (a .e) (a .clock) n (rw w (send-width-length (a .e .settings)))))
+
+returns-3 : tie.Need-returns-3
+returns-3 c =
+    let w = c .before .before .before .before in
+    let f = w .before .before in
+    let i = f .before .before in
+    let d = i .before .before .before in
+    let s = d .before in
+    let a = s .before .before .before .before .args in
+    let o = sendOf (a .e) (a .clock) (a .value .now) in
+    let x = refreshSentOf (a .e) (a .clock) in
+    let q : o ≡ outcome Done x (written (refreshFields (a .e) (a .clock)) (a .value .now)) =
+    rw (← s .send-answer .ensures, ← d .is-dropped .ensures, i .before .before .if2 .left, ← i .is-state .ensures, f .before .if3 .taken) in
+    loud (a .out .now) (a .e) o (s .before .if1 .left) Done x (refreshFields (a .e) (a .clock)) (a .value .now) q
+    (rw (f .refresh-fields .ensures) at (w .write-whole .ensures)) (rw (← c .before .refresh-sent .ensures) (c .stepped3 .ensures))
+
+write-setup-requires : tie.Need-write-setup-requires
+write-setup-requires c κs =
+    let f = c .before .before in
+    let s = f .before .before .before .before .before .before in
+    let a = s .before .before .before .before .args in (
+      s .before .if1 .left,
+      rw (f .request-fields .ensures, c .before .request-of .ensures) (request-writable (a .e) (a .clock)),
+    )
+
+returns-4 : tie.Need-returns-4
+returns-4 c =
+    let w = c .before .before .before .before in
+    let k = w .before .before in
+    let f = k .before in
+    let i = f .before .before in
+    let d = i .before .before .before in
+    let s = d .before in
+    let a = s .before .before .before .before .args in
+    let o = sendOf (a .e) (a .clock) (a .value .now) in
+    let x = requestedOf (a .e) (a .clock) in
+    let b = setupData (a .e .settings) (requestOf (a .e .state)) in
+    let q : o ≡ outcome Done x (written (requestFields (a .e) (a .clock)) b) =
+    rw (← s .send-answer .ensures, ← d .is-dropped .ensures, i .before .before .if2 .left, ← i .is-state .ensures, f .before .if3 .left) in
+    loud (a .out .now) (a .e) o (s .before .if1 .left) Done x (requestFields (a .e) (a .clock)) b q
+    (rw (f .request-fields .ensures, k .request-of .ensures) at (w .write-setup .ensures))
+    (rw (← c .before .requested .ensures) (c .stepped4 .ensures))
+
+pub send-spec : {M : Type 1} → statement M
+send-spec =
+    tie.close
+    (tie.spec
+    (λ c κs. search needs)
+    returns
+    (λ c κs. search needs)
+    (λ c κs. search needs)
+    (λ c κs. search needs)
+    returns-2
+    (λ c κs. search needs)
+    (λ c κs. search needs)
+    write-whole-requires
+    (λ c κs. search needs)
+    (λ c κs. search needs)
+    (λ c. search needs)
+    returns-3
+    (λ c κs. search needs)
+    (λ c κs. search needs)
+    write-setup-requires
+    (λ c κs. search needs)
+    (λ c κs. search needs)
+    (λ c. search needs)
+    returns-4)

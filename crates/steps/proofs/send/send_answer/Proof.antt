@@ -1,0 +1,29 @@
+-- `steps::send::send_answer` meets its contract.
+use borrow.Author.Needs.{needs}
+use Rattle.steps.proofs.send.send_answer.Statement.{statement}
+use Rattle.steps.proofs.send.send_answer.Tie as tie
+
+returns : tie.Need-returns
+returns c =
+    let s = c .before .before in
+    let m = s .before .before in
+    rw (
+      c .first-of .ensures,
+      c .before .is-above .ensures,
+      s .stamp-of .ensures,
+      s .before .send-width .ensures,
+      m .may-request .ensures,
+      m .before .is-state .ensures,
+    )
+
+pub send-answer-spec : {M : Type 1} → statement M
+send-answer-spec =
+    tie.close
+    (tie.spec
+    (λ c κs. search needs)
+    (λ c κs. search needs)
+    (λ c κs. search needs)
+    (λ c κs. search needs)
+    (λ c κs. search needs)
+    (λ c κs. search needs)
+    returns)

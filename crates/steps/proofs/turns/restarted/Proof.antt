@@ -1,0 +1,11 @@
+-- `steps::turns::restarted` meets its contract.
+use borrow.Author.Needs.{needs}
+use Rattle.steps.proofs.turns.restarted.Statement.{statement}
+use Rattle.steps.proofs.turns.restarted.Tie as tie
+
+pub restarted-spec : {M : Type 1} → statement M
+restarted-spec =
+    tie.close
+    (tie.spec
+    (λ c κs. search needs)
+    (λ c. rw (c .no-value .ensures)))

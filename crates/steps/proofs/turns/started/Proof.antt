@@ -1,0 +1,11 @@
+-- `steps::turns::started` meets its contract.
+use borrow.Author.Needs.{needs}
+use Rattle.steps.proofs.turns.started.Statement.{statement}
+use Rattle.steps.proofs.turns.started.Tie as tie
+
+pub started-spec : {M : Type 1} → statement M
+started-spec =
+    tie.close
+    (tie.spec
+    (λ c κs. search needs)
+    (λ c. rw (c .no-value .ensures)))

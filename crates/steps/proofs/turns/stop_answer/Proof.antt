@@ -1,0 +1,26 @@
+-- `steps::turns::stop_answer` meets its contract.
+use borrow.Author.Needs.{needs}
+use Rattle.steps.proofs.turns.stop_answer.Statement.{statement}
+use Rattle.steps.proofs.turns.stop_answer.Tie as tie
+
+returns : tie.Need-returns
+returns c =
+    let s = c .before .before .before in
+    rw (
+      c .first-of .ensures,
+      c .before .is-above .ensures,
+      s .stamp-of .ensures,
+      s .before .is-state2 .ensures,
+      s .before .before .is-state .ensures,
+    )
+
+pub stop-answer-spec : {M : Type 1} → statement M
+stop-answer-spec =
+    tie.close
+    (tie.spec
+    (λ c κs. search needs)
+    (λ c κs. search needs)
+    (λ c κs. search needs)
+    (λ c κs. search needs)
+    (λ c κs. search needs)
+    returns)

@@ -1,0 +1,176 @@
+-- What each user's call does: start, send, stop, restart, show.
+use mathlib.Core.Bool.{Bool, true, false, _&&_, _||_, not, cond}
+use mathlib.Core.List.{List, []}
+use Prim.Native.Nat.{ℕ}
+use lib.Dec.{eqb, ltb}
+use lib.ListN.{length, take, replicate}
+use Rattle.frame.specs.declared.Command.the-variants as K
+use Rattle.frame.specs.declared.Fields.{Fields}
+use Rattle.endpoint.specs.declared.Settings.{Settings}
+use Rattle.endpoint.specs.declared.State.{State}
+use Rattle.endpoint.specs.declared.State.the-variants.{Close, Starting, Refresh, Terminate}
+use Rattle.endpoint.specs.declared.Timestamp.{Timestamp}
+use Rattle.endpoint.specs.declared.Timestamp.the-variants.{Never, At}
+use Rattle.endpoint.specs.declared.Timestamps.{Timestamps}
+use Rattle.endpoint.specs.declared.Pending.{Pending}
+use Rattle.endpoint.specs.declared.Pending.the-variants.{Nothing, Asked}
+use Rattle.endpoint.specs.declared.Setup.{Setup}
+use Rattle.endpoint.specs.declared.Value.{Value}
+use Rattle.endpoint.specs.declared.Endpoint.{Endpoint}
+use Rattle.endpoint.specs.declared.Reason.the-variants as R
+use Rattle.endpoint.specs.declared.Answer.{Answer}
+use Rattle.endpoint.specs.declared.Answer.the-variants.{Done, Dropped, Ended}
+use Rattle.endpoint.specs.declared.Faults.{Faults}
+use Rattle.endpoint.specs.Answers.{firstOf, isDropped}
+use Rattle.endpoint.specs.Table.{isState, isSetup, requestOf}
+use Rattle.endpoint.specs.Time.{isAbove, noValue, endedOf}
+use Rattle.steps.specs.Frames.{Written, nothing, written, setupData, sendWidth, showWidth, timeOf, requestFields, refreshFields, disconnectFields}
+
+-- what a call comes to: its answer, the endpoint it leaves, what it writes
+pub record Outcome : Type 0 where
+  pub answer : Answer
+  pub endpoint : Endpoint
+  pub writes : Written
+
+abbrev pub outcome : Answer → Endpoint → Written → Outcome
+outcome a e w = record { answer = a; endpoint = e; writes = w }
+
+-- refused: the endpoint stays, nothing is written
+abbrev pub dropped : Endpoint → Answer → Outcome
+dropped e a = outcome a e nothing
+
+-- ---- a connection as loaded
+abbrev pub freshOf : Settings → Endpoint
+freshOf s = record {
+  settings = s;
+  state = Close;
+  since = 0;
+  timestamps = record { sent = Never; accepted = Never };
+  setup = record { pending = Nothing; measured = 0; offset = 0 };
+  value = noValue;
+}
+
+-- ---- start: a master's, in Close
+abbrev pub startedOf : Endpoint → ℕ → Endpoint
+startedOf e t = record {
+  settings = e .settings;
+  state = Starting;
+  since = t;
+  timestamps = e .timestamps;
+  setup = record { pending = Nothing; measured = e .setup .measured; offset = e .setup .offset };
+  value = noValue;
+}
+
+abbrev pub startOf : Endpoint → ℕ → Outcome
+startOf e t =
+    cond (not (e .settings .slave) && isState (e .state) Close) (outcome Done (startedOf e t) nothing)
+    (dropped e (Dropped R.Turn))
+
+-- ---- restart: from Terminate; timestamps are remembered
+abbrev pub restartedOf : Endpoint → Endpoint
+restartedOf e = record {
+  settings = e .settings;
+  state = Close;
+  since = e .since;
+  timestamps = e .timestamps;
+  setup = e .setup;
+  value = noValue;
+}
+
+abbrev pub restartOf : Endpoint → Outcome
+restartOf e = cond (isState (e .state) Terminate) (outcome Done (restartedOf e) nothing) (dropped e (Dropped R.Turn))
+
+-- ---- send: a master's next request in setup if none is pending; S-Refresh in Refresh
+abbrev pub isNothing : Pending → Bool
+isNothing Nothing = true
+isNothing (Asked t) = false
+
+abbrev pub mayRequest : Endpoint → Bool
+mayRequest e = not (e .settings .slave) && (isSetup (e .state) && isNothing (e .setup .pending))
+
+abbrev pub sendFaults : Endpoint → ℕ → ℕ → Faults
+sendFaults e t width = record {
+  turn = not (isState (e .state) Refresh || mayRequest e);
+  width = isState (e .state) Refresh && not (eqb width (sendWidth (e .settings)));
+  repeat = false;
+  ahead = false;
+  late = false;
+  unequal = false;
+  soon = not (isAbove (e .timestamps .sent) (timeOf e t));
+}
+
+-- the timestamp is remembered as the last sent
+abbrev pub stampedOf : Endpoint → ℕ → Timestamps
+stampedOf e stamp = record { sent = At stamp; accepted = e .timestamps .accepted }
+
+abbrev pub requestedOf : Endpoint → ℕ → Endpoint
+requestedOf e t = record {
+  settings = e .settings;
+  state = e .state;
+  since = t;
+  timestamps = stampedOf e (timeOf e t);
+  setup = record { pending = Asked (timeOf e t); measured = e .setup .measured; offset = e .setup .offset };
+  value = e .value;
+}
+
+abbrev pub refreshSentOf : Endpoint → ℕ → Endpoint
+refreshSentOf e t = record {
+  settings = e .settings;
+  state = e .state;
+  since = e .since;
+  timestamps = stampedOf e (timeOf e t);
+  setup = e .setup;
+  value = e .value;
+}
+
+-- what a send that is done comes to
+abbrev pub sentOf : Endpoint → ℕ → List ℕ → Outcome
+sentOf e t value =
+    cond (isState (e .state) Refresh) (outcome Done (refreshSentOf e t) (written (refreshFields e t) value))
+    (outcome Done (requestedOf e t) (written (requestFields e t) (setupData (e .settings) (requestOf (e .state)))))
+
+abbrev pub sendOf : Endpoint → ℕ → List ℕ → Outcome
+sendOf e t value =
+    cond (isDropped (firstOf (sendFaults e t (length value)))) (dropped e (firstOf (sendFaults e t (length value))))
+    (sentOf e t value)
+
+-- ---- stop: from any state but Close and Terminate; a master's writes S-Disconnect
+abbrev pub stopFaults : Endpoint → ℕ → Faults
+stopFaults e t = record {
+  turn = isState (e .state) Close || isState (e .state) Terminate;
+  width = false;
+  repeat = false;
+  ahead = false;
+  late = false;
+  unequal = false;
+  soon = not (e .settings .slave) && not (isAbove (e .timestamps .sent) (timeOf e t));
+}
+
+abbrev pub stoppedOf : Endpoint → ℕ → Endpoint
+stoppedOf e t = record {
+  settings = e .settings;
+  state = Terminate;
+  since = e .since;
+  timestamps = cond (e .settings .slave) (e .timestamps) (stampedOf e (timeOf e t));
+  setup = e .setup;
+  value = noValue;
+}
+
+abbrev pub disconnectOf : Endpoint → ℕ → Written
+disconnectOf e t = cond (e .settings .slave) nothing (written (disconnectFields e t) (setupData (e .settings) K.Disconnect))
+
+abbrev pub stopOf : Endpoint → ℕ → Outcome
+stopOf e t =
+    cond (isDropped (firstOf (stopFaults e t))) (dropped e (firstOf (stopFaults e t)))
+    (outcome Done (stoppedOf e t) (disconnectOf e t))
+
+-- ---- show: the last value accepted in this Refresh; else fail-safe, zero bytes of the same width
+abbrev pub isFailSafe : Endpoint → Bool
+isFailSafe e = not (isState (e .state) Refresh && e .value .taken)
+
+-- the fail-safe value, or the one held
+abbrev pub heldOr : Bool → List ℕ → List ℕ
+heldOr safe bytes = cond safe (replicate 100 0) bytes
+
+abbrev pub shownOf : Endpoint → List ℕ
+shownOf e = take (showWidth (e .settings)) (heldOr (isFailSafe e) (e .value .bytes))

@@ -1,0 +1,96 @@
+-- The frames that an endpoint writes: fields and body.
+use mathlib.Core.Bool.{Bool, true, false, _&&_, not, cond}
+use mathlib.Core.List.{List, [], _∷_, _++_}
+use Prim.Native.Nat.{ℕ, _+_, _-_, _*_, _%_}
+use lib.Dec.{eqb, ltb, leb}
+use lib.ListN.{length}
+use Rattle.frame.specs.declared.Command.{Command}
+use Rattle.frame.specs.declared.Command.the-variants as K
+use Rattle.frame.specs.declared.Session.the-variants.{Absent}
+use Rattle.frame.specs.declared.Fields.{Fields}
+use Rattle.frame.specs.Words.{wordBytes}
+use Rattle.frame.specs.Control.{is}
+use Rattle.frame.specs.Writing.{frameBytes}
+use Rattle.endpoint.specs.declared.Settings.{Settings}
+use Rattle.endpoint.specs.declared.Endpoint.{Endpoint}
+use Rattle.endpoint.specs.Table.{requestOf}
+use Rattle.endpoint.specs.Time.{span, masterTime}
+
+-- what a call writes
+pub data Written : Type 0 where
+  nothing : Written
+  written : Fields → List ℕ → Written
+
+unfoldable pub bytesOf : Written → List ℕ
+bytesOf nothing = []
+bytesOf (written f body) = frameBytes f body
+
+-- words as bytes
+abbrev pub wordsBytes : List ℕ → List ℕ
+wordsBytes [] = []
+wordsBytes (w ∷ ws) = wordBytes w ++ wordsBytes ws
+
+-- the words that a setup request carries, and that the slave compares; S-Disconnect's zero word is not looked at
+abbrev pub setupWords : Settings → Command → List ℕ
+setupWords s K.Connect = 1 ∷ []
+setupWords s K.ConfirmNetwork = s .interval ∷ s .roundtrip ∷ s .age ∷ (32 * s .masterwords + s .slavewords) ∷ []
+setupWords s K.VerifyStation = s .station ∷ []
+setupWords s K.RefreshReady = 0 ∷ []
+setupWords s K.RefreshGo = 0 ∷ []
+setupWords s K.Refresh = 0 ∷ []
+setupWords s K.Disconnect = 0 ∷ []
+
+unfoldable pub setupData : Settings → Command → List ℕ
+setupData s k = wordsBytes (setupWords s k)
+
+-- bytes of a value of so many words; a count outside 1 to 25, which no loaded list has, is taken for 1
+abbrev pub widthOf : ℕ → ℕ
+widthOf words = 4 * cond (leb 1 words && leb words 25) words 1
+
+-- bytes of the value that an endpoint sends, and of the one that it shows
+abbrev pub sendWidth : Settings → ℕ
+sendWidth s = widthOf (cond (s .slave) (s .slavewords) (s .masterwords))
+
+abbrev pub showWidth : Settings → ℕ
+showWidth s = widthOf (cond (s .slave) (s .masterwords) (s .slavewords))
+
+-- an endpoint's time in the master's clock
+abbrev pub timeOf : Endpoint → ℕ → ℕ
+timeOf e t = masterTime (e .settings .slave) (e .setup .offset) t
+
+-- fields with nothing of what 01 does not use
+abbrev pub plainFields : Command → Bool → Bool → Bool → ℕ → ℕ → ℕ → Fields
+plainFields k ack error application connection timestamp baseline = record {
+  command = k;
+  ack = ack;
+  busy = false;
+  error = error;
+  sequence = false;
+  application = application;
+  session = Absent;
+  connection = connection;
+  timestamp = timestamp;
+  baseline = baseline;
+}
+
+-- OBL of the request k: m3 − m2 in S-RefreshGO, 16 bits of it
+abbrev pub baselineOf : Command → ℕ → ℕ → ℕ
+baselineOf k t measured = cond (is k K.RefreshGo) ((t - measured) % 65536) 0
+
+-- a master's setup request
+abbrev pub requestFields : Endpoint → ℕ → Fields
+requestFields e t =
+    plainFields (requestOf (e .state)) false false false (e .settings .connection) (timeOf e t)
+    (baselineOf (requestOf (e .state)) t (e .setup .measured))
+
+-- S-Refresh; Application tells the direction
+abbrev pub refreshFields : Endpoint → ℕ → Fields
+refreshFields e t = plainFields K.Refresh false false (e .settings .slave) (e .settings .connection) (timeOf e t) 0
+
+-- a master's S-Disconnect
+abbrev pub disconnectFields : Endpoint → ℕ → Fields
+disconnectFields e t = plainFields K.Disconnect false false false (e .settings .connection) (timeOf e t) 0
+
+-- a slave's reply: Cmd, timestamp (of 48 bits) and S-Data of the request
+abbrev pub replyFields : Endpoint → Fields → Bool → Fields
+replyFields e f error = plainFields (f .command) true error true (e .settings .connection) (f .timestamp % span) 0

@@ -1,0 +1,5 @@
+-- The calls on one endpoint, in reading order.
+pub mod Frames
+pub mod Calls
+pub mod Deliveries
+pub mod Says

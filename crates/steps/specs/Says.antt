@@ -1,0 +1,58 @@
+-- How a function's result and its lent output stand to an outcome.
+use mathlib.Core.Path.{_≡_}
+use mathlib.Core.Bool.{cond}
+use mathlib.Core.List.{List, []}
+use Prim.Native.Nat.{ℕ, _≤_}
+use lib.Dec.{ltb}
+use lib.ListN.{length, take}
+use Rattle.frame.specs.declared.Command.{Command}
+use Rattle.frame.specs.declared.Fields.{Fields}
+use Rattle.frame.specs.Output.{over}
+use Rattle.frame.specs.Writing.{frameBytes}
+use Rattle.endpoint.specs.declared.Settings.{Settings}
+use Rattle.endpoint.specs.declared.Endpoint.{Endpoint}
+use Rattle.endpoint.specs.declared.Reason.the-variants as R
+use Rattle.endpoint.specs.declared.Answer.{Answer}
+use Rattle.endpoint.specs.declared.Answer.the-variants.{Dropped}
+use Rattle.steps.specs.declared.Stepped.{Stepped}
+use Rattle.steps.specs.declared.Shown.{Shown}
+use Rattle.steps.specs.Frames.{bytesOf, setupData}
+use Rattle.steps.specs.Calls.{Outcome, dropped, isFailSafe, shownOf}
+
+-- number 2: the lent output is under 248 bytes
+abbrev pub withRoom : ℕ → Endpoint → Outcome → Outcome
+withRoom room e o = cond (ltb room 248) (dropped e (Dropped R.Buffer)) o
+
+-- the data of a setup request, as the first bytes of an array
+pub record DataSays (s : Settings) (k : Command) (bytes : List ℕ) (count : ℕ) : Type 0 where
+  pub counted : count ≡ length (setupData s k)
+  pub holds : take count bytes ≡ setupData s k
+  pub fits : count ≤ length bytes
+
+abbrev pub steppedOf : Answer → Endpoint → ℕ → Stepped
+steppedOf a e n = record { answer = a; endpoint = e; count = n }
+
+-- a call that is lent no output, and writes nothing
+abbrev pub plainStep : Outcome → Stepped
+plainStep o = steppedOf (o .answer) (o .endpoint) 0
+
+-- a call that is lent an output: the written bytes stand over its front, the rest stays
+pub record StepSays (o : Outcome) (out out′ : List ℕ) (r : Stepped) : Type 0 where
+  pub answered : r .answer ≡ o .answer
+  pub left : r .endpoint ≡ o .endpoint
+  pub counted : r .count ≡ length (bytesOf (o .writes))
+  pub output : out′ ≡ over (bytesOf (o .writes)) out
+
+-- what a show writes to an output of `room` bytes; under 248 nothing
+abbrev pub shownTo : ℕ → Endpoint → List ℕ
+shownTo room e = cond (ltb room 248) [] (shownOf e)
+
+pub record ShowSays (e : Endpoint) (out out′ : List ℕ) (r : Shown) : Type 0 where
+  pub counted : r .count ≡ length (shownTo (length out) e)
+  pub marked : r .failsafe ≡ isFailSafe e
+  pub output : out′ ≡ over (shownTo (length out) e) out
+
+-- a frame that can be written, to an output that has room for every frame: all of it, and the rest stays
+pub record WholeSays (f : Fields) (body out out′ : List ℕ) (count : ℕ) : Type 0 where
+  pub counted : count ≡ length (frameBytes f body)
+  pub output : out′ ≡ over (frameBytes f body) out

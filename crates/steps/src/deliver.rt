@@ -1,0 +1,383 @@
+// Deliver: a frame of this connection, as the reader gives it.
+ghost use mathlib.Core.Path.{_≡_};
+ghost use mathlib.Core.Bool.{false};
+ghost use mathlib.Core.List.{_++_};
+ghost use Prim.Native.Nat.{ℕ, _≤_};
+ghost use lib.ListN.{length, take, drop, replicate};
+ghost use Rattle.frame.specs.declared.Command.the-variants as K;
+ghost use Rattle.frame.specs.Control.{is};
+ghost use Rattle.frame.specs.Reading.{same};
+ghost use Rattle.endpoint.specs.Answers.{firstOf};
+ghost use Rattle.steps.specs.Frames.{setupData};
+ghost use Rattle.steps.specs.Deliveries.{leftBy, acceptedOf, ageOf, refreshFaults, paddedOf, refreshedOf, takeRefresh, requestFaults, endedBy, measuredBy, offsetBy, advancedOf, takenOf, takeRequest, isAsked, answersTo, replyFaults, confirmedOf, takeReply, deliverOf};
+ghost use Rattle.steps.specs.Says.{plainStep, withRoom, StepSays};
+use super::Stepped;
+use super::requests::reply_fields;
+use super::requests::setup_data;
+use super::requests::show_width;
+use super::requests::time_of;
+use super::requests::write_whole;
+use super::turns::stepped;
+use endpoint::Answer;
+use endpoint::Endpoint;
+use endpoint::Faults;
+use endpoint::Pending;
+use endpoint::Reason;
+use endpoint::Settings;
+use endpoint::Setup;
+use endpoint::State;
+use endpoint::Timestamp;
+use endpoint::Timestamps;
+use endpoint::Value;
+use endpoint::answers::first_of;
+use endpoint::answers::is_dropped;
+use endpoint::answers::is_ended;
+use endpoint::table::is_no;
+use endpoint::table::is_setup;
+use endpoint::table::is_state;
+use endpoint::table::next_state;
+use endpoint::table::request_of;
+use endpoint::table::state_to;
+use endpoint::time::allowance;
+use endpoint::time::ended;
+use endpoint::time::is_above;
+use endpoint::time::is_too_far_ahead;
+use endpoint::time::is_too_late;
+use endpoint::time::minus;
+use endpoint::time::no_value;
+use endpoint::time::offset_from;
+use frame::Command;
+use frame::Fields;
+use frame::control::is;
+use frame::read::same;
+
+// The endpoint that an answer leaves.
+fn left_by(answer: Answer, stays: Endpoint, ends: Endpoint, next: Endpoint) -> Endpoint
+    ensures { λ r. ⌜ r ≡ leftBy answer stays ends next ⌝ }
+{
+    match answer {
+        Answer::Done => next,
+        Answer::Dropped(_) => stays,
+        Answer::Ended(_) => ends,
+    }
+}
+
+// What is remembered once a frame with this timestamp is accepted.
+fn accepted(e: Endpoint, stamp: u64) -> Timestamps
+    ensures { λ r. ⌜ r ≡ acceptedOf e stamp ⌝ }
+{
+    let timestamps = e.timestamps;
+    let sent = timestamps.sent;
+    Timestamps {
+        sent: sent,
+        accepted: Timestamp::At(stamp),
+    }
+}
+
+// A timestamp's age at an endpoint.
+fn age_of(e: Endpoint, clock: u64, stamp: u64) -> u64
+    ensures { λ r. ⌜ r ≡ ageOf e clock stamp ⌝ }
+{
+    minus(time_of(e, clock), stamp)
+}
+
+fn refresh_answer(e: Endpoint, clock: u64, stamp: u64, width: usize) -> Answer
+    ensures { λ r. ⌜ r ≡ firstOf (refreshFaults e clock stamp width) ⌝ }
+{
+    let state = e.state;
+    let settings = e.settings;
+    let timestamps = e.timestamps;
+    let last = timestamps.accepted;
+    let refresh = is_state(state, State::Refresh);
+    let due = show_width(settings);
+    let above = is_above(last, stamp);
+    let age = age_of(e, clock, stamp);
+    let ahead = is_too_far_ahead(age, allowance(settings));
+    let late = is_too_late(age, settings.age);
+    first_of(Faults {
+        turn: !refresh,
+        width: width != due,
+        repeat: !above,
+        ahead: ahead,
+        late: late,
+        unequal: false,
+        soon: false,
+    })
+}
+
+// The first n bytes of a body, with zeros after them.
+fn copied(body: &[u8], n: usize) -> [u8; 100]
+    requires { ⌜ (n ≤ 100) × (n ≤ length (now body)) ⌝ }
+    ensures { λ r. ⌜ r ≡ take n (now (body .entry)) ++ drop n (replicate {A = ℕ} 100 0) ⌝ }
+{
+    let mut bytes = [0u8; 100];
+    let mut i = 0;
+    while i < n {
+        bytes[i] = body[i];
+        i += 1;
+    }
+    bytes
+}
+
+fn padded(body: &[u8]) -> [u8; 100]
+    ensures { λ r. ⌜ r ≡ paddedOf (now (body .entry)) ⌝ }
+{
+    if body.len() < 100 {
+        return copied(body, body.len());
+    }
+    copied(body, 100)
+}
+
+fn refreshed(e: Endpoint, clock: u64, stamp: u64, bytes: [u8; 100]) -> Endpoint
+    ensures { λ r. ⌜ r ≡ refreshedOf e clock stamp bytes ⌝ }
+{
+    let settings = e.settings;
+    let state = e.state;
+    let setup = e.setup;
+    let timestamps = accepted(e, stamp);
+    Endpoint {
+        settings: settings,
+        state: state,
+        since: clock,
+        timestamps: timestamps,
+        setup: setup,
+        value: Value {
+            taken: true,
+            bytes: bytes,
+        },
+    }
+}
+
+// An S-Refresh of the other end.
+fn take_refresh(e: Endpoint, clock: u64, stamp: u64, body: &[u8]) -> Stepped
+    ensures { λ r. ⌜ r ≡ plainStep (takeRefresh e clock stamp (now (body .entry))) ⌝ }
+{
+    let answer = refresh_answer(e, clock, stamp, body.len());
+    let next = refreshed(e, clock, stamp, padded(body));
+    stepped(answer, left_by(answer, e, ended(e), next), 0)
+}
+
+fn data_length(s: Settings, k: Command) -> usize
+    ensures { λ r. ⌜ r ≡ length (setupData s k) ⌝ }
+{
+    let data = setup_data(s, k);
+    data.length
+}
+
+// Whether a body is the data of a setup request.
+fn equals_data(body: &[u8], s: Settings, k: Command) -> bool
+    ensures { λ r. ⌜ r ≡ same (now (body .entry)) (setupData s k) ⌝ }
+{
+    let data = setup_data(s, k);
+    let bytes = data.bytes;
+    let n = data.length;
+    same(body, &bytes[..n])
+}
+
+fn request_answer(e: Endpoint, f: Fields, body: &[u8]) -> Answer
+    ensures { λ r. ⌜ r ≡ firstOf (requestFaults e f (now (body .entry))) ⌝ }
+{
+    let state = e.state;
+    let settings = e.settings;
+    let timestamps = e.timestamps;
+    let last = timestamps.accepted;
+    let k = f.command;
+    let no = is_no(next_state(k, state));
+    let due = data_length(settings, k);
+    let above = is_above(last, f.timestamp);
+    let disconnect = is(k, Command::Disconnect);
+    let equal = equals_data(body, settings, k);
+    first_of(Faults {
+        turn: no,
+        width: body.len() != due,
+        repeat: !above,
+        ahead: false,
+        late: false,
+        unequal: !disconnect & !equal,
+        soon: false,
+    })
+}
+
+fn ended_by(e: Endpoint, stamp: u64) -> Endpoint
+    ensures { λ r. ⌜ r ≡ endedBy e stamp ⌝ }
+{
+    let settings = e.settings;
+    let setup = e.setup;
+    let timestamps = accepted(e, stamp);
+    Endpoint {
+        settings: settings,
+        state: State::Terminate,
+        since: e.since,
+        timestamps: timestamps,
+        setup: setup,
+        value: no_value(),
+    }
+}
+
+fn measured_by(k: Command, clock: u64, measured: u64) -> u64
+    ensures { λ r. ⌜ r ≡ measuredBy k clock measured ⌝ }
+{
+    if is(k, Command::RefreshReady) {
+        clock
+    } else {
+        measured
+    }
+}
+
+fn offset_by(e: Endpoint, f: Fields) -> u64
+    ensures { λ r. ⌜ r ≡ offsetBy e f ⌝ }
+{
+    let k = f.command;
+    if is(k, Command::RefreshGo) {
+        return offset_from(f.timestamp, f.baseline, e.setup.measured);
+    }
+    e.setup.offset
+}
+
+fn advanced(e: Endpoint, clock: u64, f: Fields) -> Endpoint
+    ensures { λ r. ⌜ r ≡ advancedOf e clock f ⌝ }
+{
+    let settings = e.settings;
+    let state = e.state;
+    let setup = e.setup;
+    let pending = setup.pending;
+    let k = f.command;
+    let next = state_to(next_state(k, state), state);
+    let timestamps = accepted(e, f.timestamp);
+    let measured = measured_by(k, clock, setup.measured);
+    let offset = offset_by(e, f);
+    Endpoint {
+        settings: settings,
+        state: next,
+        since: clock,
+        timestamps: timestamps,
+        setup: Setup {
+            pending: pending,
+            measured: measured,
+            offset: offset,
+        },
+        value: no_value(),
+    }
+}
+
+// What a request that is done leaves.
+fn taken(e: Endpoint, clock: u64, f: Fields) -> Endpoint
+    ensures { λ r. ⌜ r ≡ takenOf e clock f ⌝ }
+{
+    let k = f.command;
+    if is(k, Command::Disconnect) {
+        return ended_by(e, f.timestamp);
+    }
+    advanced(e, clock, f)
+}
+
+// A request at a slave, with its reply.
+fn take_request(e: Endpoint, clock: u64, f: Fields, body: &[u8], out: &mut [u8]) -> Stepped
+    requires { ⌜ (248 ≤ length (now out)) × (is (f .command) K.Refresh ≡ false) ⌝ }
+    ensures { λ r. ⌜ StepSays (takeRequest e clock f (now (body .entry))) (now (out .entry)) (now (out .exit)) r ⌝ }
+{
+    let answer = request_answer(e, f, body);
+    let k = f.command;
+    let next = left_by(answer, e, ended_by(e, f.timestamp), taken(e, clock, f));
+    if is_dropped(answer) | is(k, Command::Disconnect) {
+        return stepped(answer, next, 0);
+    }
+    let count = write_whole(reply_fields(e, f, is_ended(answer)), body, out);
+    stepped(answer, next, count)
+}
+
+fn is_asked(pending: Pending) -> bool
+    ensures { λ r. ⌜ r ≡ isAsked pending ⌝ }
+{
+    match pending {
+        Pending::Nothing => false,
+        Pending::Asked(_) => true,
+    }
+}
+
+fn answers_to(pending: Pending, stamp: u64) -> bool
+    ensures { λ r. ⌜ r ≡ answersTo pending stamp ⌝ }
+{
+    match pending {
+        Pending::Nothing => false,
+        Pending::Asked(asked) => asked == stamp,
+    }
+}
+
+fn reply_answer(e: Endpoint, f: Fields, body: &[u8]) -> Answer
+    ensures { λ r. ⌜ r ≡ firstOf (replyFaults e f (now (body .entry))) ⌝ }
+{
+    let state = e.state;
+    let settings = e.settings;
+    let setup = e.setup;
+    let pending = setup.pending;
+    let k = f.command;
+    let due = request_of(state);
+    let in_setup = is_setup(state);
+    let asked = is_asked(pending);
+    let matches = is(k, due);
+    let length = data_length(settings, due);
+    let answers = answers_to(pending, f.timestamp);
+    let equal = equals_data(body, settings, due);
+    first_of(Faults {
+        turn: !(in_setup & (f.ack & (asked & matches))),
+        width: body.len() != length,
+        repeat: !answers,
+        ahead: false,
+        late: false,
+        unequal: f.error | !equal,
+        soon: false,
+    })
+}
+
+fn confirmed(e: Endpoint, clock: u64) -> Endpoint
+    ensures { λ r. ⌜ r ≡ confirmedOf e clock ⌝ }
+{
+    let settings = e.settings;
+    let state = e.state;
+    let timestamps = e.timestamps;
+    let k = request_of(state);
+    let next = state_to(next_state(k, state), state);
+    let measured = measured_by(k, clock, e.setup.measured);
+    Endpoint {
+        settings: settings,
+        state: next,
+        since: clock,
+        timestamps: timestamps,
+        setup: Setup {
+            pending: Pending::Nothing,
+            measured: measured,
+            offset: e.setup.offset,
+        },
+        value: no_value(),
+    }
+}
+
+// A reply at a master.
+fn take_reply(e: Endpoint, clock: u64, f: Fields, body: &[u8]) -> Stepped
+    ensures { λ r. ⌜ r ≡ plainStep (takeReply e clock f (now (body .entry))) ⌝ }
+{
+    let answer = reply_answer(e, f, body);
+    stepped(answer, left_by(answer, e, ended(e), confirmed(e, clock)), 0)
+}
+
+// A frame of this connection. A slave's request writes its reply.
+pub fn deliver(e: Endpoint, clock: u64, f: Fields, body: &[u8], out: &mut [u8]) -> Stepped
+    ensures { λ r. ⌜ StepSays (withRoom (length (now (out .entry))) e (deliverOf e clock f (now (body .entry)))) (now (out .entry)) (now (out .exit)) r ⌝ }
+{
+    if out.len() < 248 {
+        return stepped(Answer::Dropped(Reason::Buffer), e, 0);
+    }
+    let echo = f.application == e.settings.slave;
+    if echo {
+        return stepped(Answer::Dropped(Reason::Echo), e, 0);
+    }
+    let k = f.command;
+    if is(k, Command::Refresh) {
+        return take_refresh(e, clock, f.timestamp, body);
+    }
+    if e.settings.slave {
+        return take_request(e, clock, f, body, out);
+    }
+    take_reply(e, clock, f, body)
+}

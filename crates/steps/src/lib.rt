@@ -1,0 +1,24 @@
+// The calls on one endpoint, by value: what it sends, takes and shows. They know fields and no offsets of bytes, and nothing of
+// the table that holds the endpoint.
+
+pub mod deliver;
+mod requests;
+pub mod send;
+pub mod show;
+pub mod turns;
+
+use endpoint::Answer;
+use endpoint::Endpoint;
+
+// A call's answer, the endpoint it leaves, and the bytes written to the lent output.
+pub struct Stepped {
+    pub answer: Answer,
+    pub endpoint: Endpoint,
+    pub count: usize,
+}
+
+// A show's count of bytes, and the mark 'fail-safe'.
+pub struct Shown {
+    pub count: usize,
+    pub failsafe: bool,
+}

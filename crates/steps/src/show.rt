@@ -1,0 +1,61 @@
+// Show: the last value accepted in this Refresh, or fail-safe.
+ghost use mathlib.Core.Path.{_≡_};
+ghost use mathlib.Core.List.{_++_};
+ghost use Prim.Native.Nat.{_≤_};
+ghost use lib.ListN.{length, take, drop};
+ghost use Rattle.frame.specs.Output.{over};
+ghost use Rattle.steps.specs.Calls.{isFailSafe, heldOr, shownOf};
+ghost use Rattle.steps.specs.Says.{ShowSays};
+use super::Shown;
+use super::requests::show_width;
+use endpoint::Endpoint;
+use endpoint::State;
+use endpoint::table::is_state;
+
+fn is_fail_safe(e: Endpoint) -> bool
+    ensures { λ r. ⌜ r ≡ isFailSafe e ⌝ }
+{
+    let state = e.state;
+    !(is_state(state, State::Refresh) & e.value.taken)
+}
+
+// The value to show: the fail-safe value, or the one held.
+fn value_of(safe: bool, bytes: [u8; 100]) -> [u8; 100]
+    ensures { λ r. ⌜ (r ≡ heldOr safe bytes) × (length r ≡ 100) ⌝ }
+{
+    if safe { [0; 100] } else { bytes }
+}
+
+// The first n bytes of an array over the front of an output.
+fn copy_out(bytes: [u8; 100], n: usize, out: &mut [u8])
+    requires { ⌜ (n ≤ 100) × (n ≤ length (now out)) ⌝ }
+    ensures { λ _. ⌜ now (out .exit) ≡ take n bytes ++ drop n (now (out .entry)) ⌝ }
+{
+    let mut i = 0;
+    while i < n {
+        out[i] = bytes[i];
+        i += 1;
+    }
+}
+
+// The value of the other end's last S-Refresh in this Refresh; else zero bytes of the same width, and the mark.
+pub fn show(e: Endpoint, out: &mut [u8]) -> Shown
+    ensures { λ r. ⌜ ShowSays e (now (out .entry)) (now (out .exit)) r ⌝ }
+{
+    let safe = is_fail_safe(e);
+    if out.len() < 248 {
+        return Shown {
+            count: 0,
+            failsafe: safe,
+        };
+    }
+    let settings = e.settings;
+    let held = e.value;
+    let n = show_width(settings);
+    let bytes = held.bytes;
+    copy_out(value_of(safe, bytes), n, out);
+    Shown {
+        count: n,
+        failsafe: safe,
+    }
+}
