@@ -90,13 +90,13 @@ fn restarted(e: Endpoint) -> Endpoint
     ensures { λ r. ⌜ r ≡ restartedOf e ⌝ }
 {
     let settings = e.settings;
-    let timestamps = e.timestamps;
+    let remembered = e.timestamps;
     let setup = e.setup;
     Endpoint {
         settings: settings,
         state: State::Close,
         since: e.since,
-        timestamps: timestamps,
+        timestamps: remembered,
         setup: setup,
         value: no_value(),
     }
