@@ -5,6 +5,7 @@ use mathlib.Core.List.{List}
 use Prim.Native.Nat.{ℕ}
 use lib.ListN.{length}
 use Rattle.frame.specs.declared.Fields.{Fields}
+use native.Mathlib.Omega.{arith}
 use lib.Dec.{eqb}
 use borrow.Author.Tests.{eqb-true, not-false}
 use Rattle.endpoint.specs.declared.State.the-variants.{Refresh}
@@ -39,6 +40,45 @@ not-dropped f h =
     let a = past (f .ahead) R.Ahead _ (p .1) in
     record { turn = t .0; width = w .0; repeat = p .0; ahead = a .0 }
 
+-- where nothing can end the connection, an answer that is not dropped is not too soon either
+pub not-soon : (f : Faults) → f .late ≡ false → f .unequal ≡ false → isDropped (firstOf f) ≡ false → f .soon ≡ false
+not-soon f l u h =
+    let t = past (f .turn) R.Turn _ h in
+    let w = past (f .width) R.Width _ (t .1) in
+    let p = past (f .repeat) R.Repeat _ (w .1) in
+    let a = past (f .ahead) R.Ahead _ (p .1) in
+    past (f .soon) R.TooSoon Done (rw (l, u) at (a .1)) .0
+
+-- ---- done: no test applies
+pub record NoFault (f : Faults) : Type 0 where
+  pub turn : f .turn ≡ false
+  pub width : f .width ≡ false
+  pub repeat : f .repeat ≡ false
+  pub ahead : f .ahead ≡ false
+  pub late : f .late ≡ false
+  pub unequal : f .unequal ≡ false
+  pub soon : f .soon ≡ false
+
+drops : (b : Bool) (r : Reason) (x : Answer) → cond b (Dropped r) x ≡ Done → (b ≡ false) × (x ≡ Done)
+drops true r x h = let z : _≡_ {A = ℕ} 0 1 = cc in absurd (omega arith)
+drops false r x h = (refl, h)
+
+ends : (b : Bool) (r : Reason) (x : Answer) → cond b (Ended r) x ≡ Done → (b ≡ false) × (x ≡ Done)
+ends true r x h = let z : _≡_ {A = ℕ} 0 1 = cc in absurd (omega arith)
+ends false r x h = (refl, h)
+
+pub first-done : (f : Faults) → firstOf f ≡ Done → NoFault f
+first-done f h =
+    let t = drops (f .turn) R.Turn _ h in
+    let w = drops (f .width) R.Width _ (t .1) in
+    let p = drops (f .repeat) R.Repeat _ (w .1) in
+    let a = drops (f .ahead) R.Ahead _ (p .1) in
+    let l = ends (f .late) R.Late _ (a .1) in
+    let u = ends (f .unequal) R.Unequal _ (l .1) in
+    let s = drops (f .soon) R.TooSoon _ (u .1) in
+    record { turn = t .0; width = w .0; repeat = p .0; ahead = a .0; late = l .0; unequal = u .0; soon = s .0 }
+
+-- ---- the length of what is sent and taken
 -- a send in Refresh that is not dropped has a value of the right length
 pub sent-width : (e : Endpoint) (t n : ℕ) → isState (e .state) Refresh ≡ true → isDropped (firstOf (sendFaults e t n)) ≡ false
     → n ≡ sendWidth (e .settings)

@@ -1,4 +1,4 @@
--- Laws that serve several functions.
+-- Laws that serve several functions, and the laws of the calls.
 pub mod Copies
 pub mod Data
 pub mod Dispatch
@@ -6,3 +6,7 @@ pub mod Firsts
 pub mod Outcomes
 pub mod Shows
 pub mod Whole
+pub mod Keeps
+pub mod Carried
+pub mod Dones
+pub mod CallLaws

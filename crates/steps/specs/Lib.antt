@@ -3,3 +3,4 @@ pub mod Frames
 pub mod Calls
 pub mod Deliveries
 pub mod Says
+pub mod Laws

@@ -1,0 +1,71 @@
+-- What an endpoint writes can be written, and carries its CID and its role's Application bit.
+use mathlib.Core.Path.{_≡_, refl, sym, subst, _∙_}
+use mathlib.Core.Bool.{Bool, true, false, _&&_, _||_, not, cond, Bool·beq}
+use mathlib.Core.List.{List}
+use Prim.Native.Nat.{ℕ}
+use lib.ListN.{length}
+use borrow.Author.Tests.{not-true, not-false}
+use Rattle.frame.specs.declared.Command.the-variants as K
+use Rattle.frame.specs.declared.Fields.{Fields}
+use Rattle.frame.specs.Control.{is}
+use Rattle.frame.specs.Writing.{isBodyLength}
+use Rattle.frame.proofs.Alike.{and-left}
+use Rattle.endpoint.specs.declared.State.the-variants.{Refresh}
+use Rattle.endpoint.specs.declared.Endpoint.{Endpoint}
+use Rattle.endpoint.specs.Answers.{firstOf, isDropped, isEnded}
+use Rattle.endpoint.specs.Table.{isState, isSetup}
+use Rattle.steps.specs.Frames.{Written, nothing, written}
+use Rattle.steps.specs.Calls.{Outcome, isNothing, mayRequest, sendFaults, sendOf, stopFaults, disconnectOf, stopOf}
+use Rattle.steps.specs.Deliveries.{requestFaults, repliedOf, deliverOf}
+use Rattle.steps.specs.Laws.{Carries}
+use Rattle.steps.proofs.Dispatch.{cond-true, cond-false, deliver-echo, deliver-refresh, deliver-request, deliver-reply}
+use Rattle.steps.proofs.Firsts.{not-dropped, sent-width, request-width, neither}
+use Rattle.steps.proofs.Keeps.{bcase}
+use Rattle.steps.proofs.Whole.{request-writable, refresh-writable, disconnect-writable, reply-writable, send-width-length, setup-length}
+
+-- a send that is not dropped, outside Refresh, is a request
+pub may-request : (e : Endpoint) (t n : ℕ) → isState (e .state) Refresh ≡ false → isDropped (firstOf (sendFaults e t n)) ≡ false
+    → mayRequest e ≡ true
+may-request e t n k h =
+    let w : (isState (e .state) Refresh || mayRequest e) ≡ true =
+    not-false (isState (e .state) Refresh || mayRequest e) (not-dropped (sendFaults e t n) h .turn) in
+    rw k at w
+
+pub master-requests : (e : Endpoint) → mayRequest e ≡ true → e .settings .slave ≡ false
+master-requests e h = not-true (e .settings .slave) (and-left (not (e .settings .slave)) (isSetup (e .state) && isNothing (e .setup .pending)) h)
+
+module _ (e : Endpoint) (t : ℕ) where
+  pub send-carries : (value : List ℕ) → Carries e (sendOf e t value .writes)
+  send-carries value =
+      let n = length value in
+      bcase (isDropped (firstOf (sendFaults e t n))) (λ h. rw h tt)
+      (λ h. rw h (bcase (isState (e .state) Refresh)
+      (λ k. rw k (refresh-writable e t n (rw (sent-width e t n k h) (send-width-length (e .settings))), refl, refl))
+      (λ k. rw k (request-writable e t, refl, sym (master-requests e (may-request e t n k h))))))
+
+  pub stop-carries : Carries e (stopOf e t .writes)
+  stop-carries =
+      bcase (isDropped (firstOf (stopFaults e t))) (λ h. rw h tt)
+      (λ h. rw h (bcase (e .settings .slave)
+      (λ m. subst (Carries e) (sym (cond-true (e .settings .slave) _ _ m)) tt)
+      (λ m. subst (Carries e) (sym (cond-false (e .settings .slave) _ _ m)) (disconnect-writable e t, refl, sym m))))
+
+  request-carries : (f : Fields) (body : List ℕ) → is (f .command) K.Refresh ≡ false → e .settings .slave ≡ true
+      → Carries e (repliedOf e f body (firstOf (requestFaults e f body)))
+  request-carries f body k m =
+      let a = firstOf (requestFaults e f body) in
+      bcase (isDropped a || is (f .command) K.Disconnect) (λ h. rw h tt)
+      (λ h.
+      let n = neither (isDropped a) (is (f .command) K.Disconnect) h in
+      let l : isBodyLength (length body) ≡ true = rw (request-width e f body (n .0)) (setup-length (e .settings) (f .command)) in
+      rw h (reply-writable e t f (isEnded a) (length body) k (n .1) l, refl, sym m))
+
+  pub deliver-carries : (f : Fields) (body : List ℕ) → Carries e (deliverOf e t f body .writes)
+  deliver-carries f body =
+      bcase (Bool·beq (f .application) (e .settings .slave))
+      (λ h. subst (λ (o : Outcome). Carries e (o .writes)) (sym (deliver-echo e t f body h)) tt)
+      (λ h. bcase (is (f .command) K.Refresh)
+      (λ k. subst (λ (o : Outcome). Carries e (o .writes)) (sym (deliver-refresh e t f body h k)) tt)
+      (λ k. bcase (e .settings .slave)
+      (λ m. subst (λ (o : Outcome). Carries e (o .writes)) (sym (deliver-request e t f body h k m)) (request-carries f body k m))
+      (λ m. subst (λ (o : Outcome). Carries e (o .writes)) (sym (deliver-reply e t f body h k m)) tt)))

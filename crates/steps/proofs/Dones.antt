@@ -1,0 +1,196 @@
+-- What done tells of each call, and what dropped leaves.
+use mathlib.Core.Path.{_≡_, refl, sym, ap, _∙_}
+use mathlib.Core.Bool.{Bool, true, false, _&&_, _||_, not, cond, Bool·beq, true≢false, false≢true}
+use mathlib.Core.List.{List}
+use mathlib.Core.Logic.{_⊎_, inl, inr}
+use Prim.Native.Nat.{ℕ}
+use native.Mathlib.Omega.{arith}
+use lib.Dec.{eqb}
+use lib.ListN.{length}
+use borrow.Author.Tests.{eqb-true, not-true, not-false}
+use Rattle.frame.specs.declared.Command.the-variants as K
+use Rattle.frame.specs.declared.Fields.{Fields}
+use Rattle.frame.specs.Control.{is}
+use Rattle.frame.specs.Reading.{same}
+use Rattle.frame.proofs.Alike.{and-left, and-right, same-eq}
+use Rattle.endpoint.specs.declared.State.the-variants.{Close, Refresh, Terminate}
+use Rattle.endpoint.specs.declared.Pending.{Pending}
+use Rattle.endpoint.specs.declared.Pending.the-variants.{Nothing, Asked}
+use Rattle.endpoint.specs.declared.Endpoint.{Endpoint}
+use Rattle.endpoint.specs.declared.Reason.{Reason}
+use Rattle.endpoint.specs.declared.Reason.the-variants as R
+use Rattle.endpoint.specs.declared.Answer.{Answer}
+use Rattle.endpoint.specs.declared.Answer.the-variants.{Done, Dropped, Ended}
+use Rattle.endpoint.specs.Answers.{firstOf, isDropped}
+use Rattle.endpoint.specs.Table.{isState, isSetup, requestOf}
+use Rattle.endpoint.specs.Time.{isAbove}
+use Rattle.steps.specs.Frames.{setupData, sendWidth, showWidth, timeOf}
+use Rattle.steps.specs.Calls.{Outcome, dropped, isNothing, mayRequest, startOf, restartOf, sendFaults, sendOf, stopFaults, stopOf}
+use Rattle.steps.specs.Deliveries.{isAsked, answersTo, refreshFaults, requestFaults, replyFaults, takeRefresh, takeRequest, takeReply, deliverOf}
+use Rattle.steps.specs.Laws.{StartDone, RestartDone, RefreshSent, RequestSent, StopDone, RefreshTaken, RequestTaken, DisconnectTaken, ReplyTaken}
+use Rattle.steps.proofs.Carried.{may-request, master-requests}
+use Rattle.steps.proofs.Dispatch.{deliver-echo, deliver-refresh, deliver-request, deliver-reply}
+use Rattle.steps.proofs.Firsts.{not-dropped, not-soon, first-done, sent-width, neither}
+use Rattle.steps.proofs.Keeps.{bcase}
+
+-- ---- answers apart
+not-done : (r : Reason) → Dropped r ≡ Done → ⊥
+not-done r h = let z : _≡_ {A = ℕ} 0 1 = cc in omega arith
+
+-- a dropped answer is not done
+dropped-not-done : (a : Answer) → isDropped a ≡ true → a ≡ Done → ⊥
+dropped-not-done Done h p = false≢true h
+dropped-not-done (Dropped r) h p = not-done r p
+dropped-not-done (Ended r) h p = false≢true h
+
+idle-is : (p : Pending) → isNothing p ≡ true → p ≡ Nothing
+idle-is Nothing h = refl
+idle-is (Asked t) h = absurd (false≢true h)
+
+answers-is : (p : Pending) (s : ℕ) → answersTo p s ≡ true → p ≡ Asked s
+answers-is Nothing s h = absurd (false≢true h)
+answers-is (Asked t) s h = ap Asked (eqb-true t s h)
+
+module _ (e : Endpoint) (t : ℕ) where
+  pub start-done : startOf e t .answer ≡ Done → StartDone e t
+  start-done d =
+      let m = not (e .settings .slave) in
+      let z = isState (e .state) Close in
+      bcase (m && z)
+      (λ h. record { master = not-true (e .settings .slave) (and-left m z h); closed = and-right m z h; comes = rw h })
+      (λ h. absurd (not-done R.Turn (rw h at d)))
+
+  pub restart-done : restartOf e .answer ≡ Done → RestartDone e
+  restart-done d =
+      bcase (isState (e .state) Terminate) (λ h. record { terminated = h; comes = rw h }) (λ h. absurd (not-done R.Turn (rw h at d)))
+
+  -- ---- send
+  above-sent : (n : ℕ) → isDropped (firstOf (sendFaults e t n)) ≡ false → isAbove (e .timestamps .sent) (timeOf e t) ≡ true
+  above-sent n h = not-false (isAbove (e .timestamps .sent) (timeOf e t)) (not-soon (sendFaults e t n) refl refl h)
+
+  pub send-done : (value : List ℕ) → sendOf e t value .answer ≡ Done → RefreshSent e t value ⊎ RequestSent e t value
+  send-done value d =
+      let n = length value in
+      let a = firstOf (sendFaults e t n) in
+      bcase (isDropped a) (λ h. absurd (dropped-not-done a h (rw h at d)))
+      (λ h. bcase (isState (e .state) Refresh)
+      (λ k. inl (record { refresh = k; width = sent-width e t n k h; above = above-sent n h; comes = rw (h, k) }))
+      (λ k.
+      let m = may-request e t n k h in
+      let u = and-right (not (e .settings .slave)) (isSetup (e .state) && isNothing (e .setup .pending)) m in
+      inr (record {
+        master = master-requests e m;
+        setup = and-left (isSetup (e .state)) (isNothing (e .setup .pending)) u;
+        idle = idle-is (e .setup .pending) (and-right (isSetup (e .state)) (isNothing (e .setup .pending)) u);
+        above = above-sent n h;
+        comes = rw (h, k);
+      })))
+
+  pub send-dropped : (value : List ℕ) (r : Reason) → sendOf e t value .answer ≡ Dropped r → sendOf e t value ≡ dropped e (Dropped r)
+  send-dropped value r d =
+      let a = firstOf (sendFaults e t (length value)) in
+      bcase (isDropped a) (λ h. let p : a ≡ Dropped r = rw h at d in rw h (ap (dropped e) p))
+      (λ h. bcase (isState (e .state) Refresh)
+      (λ k. absurd (not-done r (sym (rw (h, k) at d))))
+      (λ k. absurd (not-done r (sym (rw (h, k) at d)))))
+
+  -- ---- stop
+  pub stop-done : stopOf e t .answer ≡ Done → StopDone e t
+  stop-done d =
+      let a = firstOf (stopFaults e t) in
+      let above = isAbove (e .timestamps .sent) (timeOf e t) in
+      bcase (isDropped a) (λ h. absurd (dropped-not-done a h (rw h at d)))
+      (λ h.
+      let n = neither (isState (e .state) Close) (isState (e .state) Terminate) (not-dropped (stopFaults e t) h .turn) in
+      let s : (not (e .settings .slave) && not above) ≡ false = not-soon (stopFaults e t) refl refl h in
+      record {
+        begun = n .0;
+        running = n .1;
+        above = λ m. not-false above (master-above (e .settings .slave) above m s);
+        comes = rw h;
+      })
+    where
+      master-above : (slave above : Bool) → slave ≡ false → (not slave && not above) ≡ false → not above ≡ false
+      master-above true above m s = absurd (true≢false m)
+      master-above false above m s = s
+
+  pub stop-dropped : (r : Reason) → stopOf e t .answer ≡ Dropped r → stopOf e t ≡ dropped e (Dropped r)
+  stop-dropped r d =
+      let a = firstOf (stopFaults e t) in
+      bcase (isDropped a) (λ h. let p : a ≡ Dropped r = rw h at d in rw h (ap (dropped e) p)) (λ h. absurd (not-done r (sym (rw h at d))))
+
+  -- ---- deliver
+  pub refresh-done : (stamp : ℕ) (body : List ℕ) → takeRefresh e t stamp body .answer ≡ Done → RefreshTaken e t stamp body
+  refresh-done stamp body d =
+      let f = first-done (refreshFaults e t stamp (length body)) d in
+      let w = eqb (length body) (showWidth (e .settings)) in
+      record {
+        refresh = not-false (isState (e .state) Refresh) (f .turn);
+        width = eqb-true (length body) (showWidth (e .settings)) (not-false w (f .width));
+        above = not-false (isAbove (e .timestamps .accepted) stamp) (f .repeat);
+        near = f .ahead;
+        young = f .late;
+        comes = rw d;
+      }
+
+  pub request-done : (f : Fields) (body : List ℕ) → is (f .command) K.Disconnect ≡ false → takeRequest e t f body .answer ≡ Done
+      → RequestTaken e t f body
+  request-done f body k d =
+      let n = first-done (requestFaults e f body) d in
+      let s = same body (setupData (e .settings) (f .command)) in
+      let u : not s ≡ false = rw k at (n .unequal) in
+      record {
+        turn = n .turn;
+        above = not-false (isAbove (e .timestamps .accepted) (f .timestamp)) (n .repeat);
+        contents = same-eq body (setupData (e .settings) (f .command)) (not-false s u);
+        comes = rw (d, k);
+      }
+
+  pub disconnect-done : (f : Fields) (body : List ℕ) → is (f .command) K.Disconnect ≡ true → takeRequest e t f body .answer ≡ Done
+      → DisconnectTaken e t f body
+  disconnect-done f body k d =
+      let n = first-done (requestFaults e f body) d in
+      record {
+        turn = n .turn;
+        above = not-false (isAbove (e .timestamps .accepted) (f .timestamp)) (n .repeat);
+        comes = rw (d, k);
+      }
+
+  pub reply-done : (f : Fields) (body : List ℕ) → takeReply e t f body .answer ≡ Done → ReplyTaken e t f body
+  reply-done f body d =
+      let n = first-done (replyFaults e f body) d in
+      let due = requestOf (e .state) in
+      let s = same body (setupData (e .settings) due) in
+      let x = isSetup (e .state) in
+      let y = f .ack && (isAsked (e .setup .pending) && is (f .command) due) in
+      let z = isAsked (e .setup .pending) && is (f .command) due in
+      let turn : (x && y) ≡ true = not-false (x && y) (n .turn) in
+      let u = neither (f .error) (not s) (n .unequal) in
+      record {
+        setup = and-left x y turn;
+        pending = answers-is (e .setup .pending) (f .timestamp) (not-false (answersTo (e .setup .pending) (f .timestamp)) (n .repeat));
+        command = and-right (isAsked (e .setup .pending)) (is (f .command) due) (and-right (f .ack) z (and-right x y turn));
+        sound = u .0;
+        contents = same-eq body (setupData (e .settings) due) (not-false s (u .1));
+        comes = rw d;
+      }
+
+  pub deliver-dropped : (f : Fields) (body : List ℕ) (r : Reason) → deliverOf e t f body .answer ≡ Dropped r
+      → deliverOf e t f body ≡ dropped e (Dropped r)
+  deliver-dropped f body r d =
+      bcase (Bool·beq (f .application) (e .settings .slave))
+      (λ h. let q = deliver-echo e t f body h in q ∙ ap (dropped e) (sym (ap (λ (o : Outcome). o .answer) q) ∙ d))
+      (λ h. bcase (is (f .command) K.Refresh)
+      (λ k.
+      let q = deliver-refresh e t f body h k in
+      let p : firstOf (refreshFaults e t (f .timestamp) (length body)) ≡ Dropped r = sym (ap (λ (o : Outcome). o .answer) q) ∙ d in
+      q ∙ rw p)
+      (λ k. bcase (e .settings .slave)
+      (λ m.
+      let q = deliver-request e t f body h k m in
+      let p : firstOf (requestFaults e f body) ≡ Dropped r = sym (ap (λ (o : Outcome). o .answer) q) ∙ d in
+      q ∙ rw p)
+      (λ m.
+      let q = deliver-reply e t f body h k m in
+      let p : firstOf (replyFaults e f body) ≡ Dropped r = sym (ap (λ (o : Outcome). o .answer) q) ∙ d in
+      q ∙ rw p)))

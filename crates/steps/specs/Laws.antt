@@ -1,0 +1,113 @@
+-- What holds of the calls, for whoever uses them and does not look at their text.
+use mathlib.Core.Path.{_≡_}
+use mathlib.Core.Bool.{Bool, true, false}
+use mathlib.Core.List.{List}
+use mathlib.Core.Logic.{_⊎_}
+use Prim.Native.Nat.{ℕ}
+use lib.ListN.{length}
+use Rattle.frame.specs.declared.Command.the-variants as K
+use Rattle.frame.specs.declared.Fields.{Fields}
+use Rattle.frame.specs.Control.{is}
+use Rattle.frame.specs.Writing.{isWritable}
+use Rattle.endpoint.specs.declared.State.the-variants.{Close, Refresh, Terminate}
+use Rattle.endpoint.specs.declared.Pending.the-variants.{Nothing, Asked}
+use Rattle.endpoint.specs.declared.Endpoint.{Endpoint}
+use Rattle.endpoint.specs.declared.Reason.{Reason}
+use Rattle.endpoint.specs.declared.Answer.the-variants.{Done, Dropped}
+use Rattle.endpoint.specs.Table.{isState, isSetup, isNo, nextOf, requestOf}
+use Rattle.endpoint.specs.Time.{isAbove, isTooFarAhead, isTooLate, allowanceOf}
+use Rattle.steps.specs.Frames.{Written, nothing, written, setupData, sendWidth, showWidth, timeOf, requestFields, refreshFields, replyFields}
+use Rattle.steps.specs.Calls.{Outcome, outcome, dropped, startedOf, restartedOf, requestedOf, refreshSentOf, stoppedOf, disconnectOf, startOf, restartOf, sendOf, stopOf}
+use Rattle.steps.specs.Deliveries.{paddedOf, refreshedOf, advancedOf, endedBy, confirmedOf, takeRefresh, takeRequest, takeReply, deliverOf, ageOf}
+
+-- what is written can be written, and carries the endpoint's CID and its role's Application bit
+abbrev pub Carries : Endpoint → Written → Type 0
+Carries e nothing = Unit {0}
+Carries e (written f body) =
+    (isWritable f (length body) ≡ true) × (f .connection ≡ e .settings .connection) × (f .application ≡ e .settings .slave)
+
+-- ---- what a call that is done tells of the endpoint, and what it comes to
+pub record StartDone (e : Endpoint) (t : ℕ) : Type 0 where
+  pub master : e .settings .slave ≡ false
+  pub closed : isState (e .state) Close ≡ true
+  pub comes : startOf e t ≡ outcome Done (startedOf e t) nothing
+
+pub record RestartDone (e : Endpoint) : Type 0 where
+  pub terminated : isState (e .state) Terminate ≡ true
+  pub comes : restartOf e ≡ outcome Done (restartedOf e) nothing
+
+pub record RefreshSent (e : Endpoint) (t : ℕ) (value : List ℕ) : Type 0 where
+  pub refresh : isState (e .state) Refresh ≡ true
+  pub width : length value ≡ sendWidth (e .settings)
+  pub above : isAbove (e .timestamps .sent) (timeOf e t) ≡ true
+  pub comes : sendOf e t value ≡ outcome Done (refreshSentOf e t) (written (refreshFields e t) value)
+
+pub record RequestSent (e : Endpoint) (t : ℕ) (value : List ℕ) : Type 0 where
+  pub master : e .settings .slave ≡ false
+  pub setup : isSetup (e .state) ≡ true
+  pub idle : e .setup .pending ≡ Nothing
+  pub above : isAbove (e .timestamps .sent) (timeOf e t) ≡ true
+  pub comes : sendOf e t value
+      ≡ outcome Done (requestedOf e t) (written (requestFields e t) (setupData (e .settings) (requestOf (e .state))))
+
+pub record StopDone (e : Endpoint) (t : ℕ) : Type 0 where
+  pub begun : isState (e .state) Close ≡ false
+  pub running : isState (e .state) Terminate ≡ false
+  pub above : e .settings .slave ≡ false → isAbove (e .timestamps .sent) (timeOf e t) ≡ true
+  pub comes : stopOf e t ≡ outcome Done (stoppedOf e t) (disconnectOf e t)
+
+pub record RefreshTaken (e : Endpoint) (t stamp : ℕ) (body : List ℕ) : Type 0 where
+  pub refresh : isState (e .state) Refresh ≡ true
+  pub width : length body ≡ showWidth (e .settings)
+  pub above : isAbove (e .timestamps .accepted) stamp ≡ true
+  pub near : isTooFarAhead (ageOf e t stamp) (allowanceOf (e .settings)) ≡ false
+  pub young : isTooLate (ageOf e t stamp) (e .settings .age) ≡ false
+  pub comes : takeRefresh e t stamp body ≡ outcome Done (refreshedOf e t stamp (paddedOf body)) nothing
+
+pub record RequestTaken (e : Endpoint) (t : ℕ) (f : Fields) (body : List ℕ) : Type 0 where
+  pub turn : isNo (nextOf (f .command) (e .state)) ≡ false
+  pub above : isAbove (e .timestamps .accepted) (f .timestamp) ≡ true
+  pub contents : body ≡ setupData (e .settings) (f .command)
+  pub comes : takeRequest e t f body ≡ outcome Done (advancedOf e t f) (written (replyFields e f false) body)
+
+pub record DisconnectTaken (e : Endpoint) (t : ℕ) (f : Fields) (body : List ℕ) : Type 0 where
+  pub turn : isNo (nextOf (f .command) (e .state)) ≡ false
+  pub above : isAbove (e .timestamps .accepted) (f .timestamp) ≡ true
+  pub comes : takeRequest e t f body ≡ outcome Done (endedBy e (f .timestamp)) nothing
+
+pub record ReplyTaken (e : Endpoint) (t : ℕ) (f : Fields) (body : List ℕ) : Type 0 where
+  pub setup : isSetup (e .state) ≡ true
+  pub pending : e .setup .pending ≡ Asked (f .timestamp)
+  pub command : is (f .command) (requestOf (e .state)) ≡ true
+  pub sound : f .error ≡ false
+  pub contents : body ≡ setupData (e .settings) (requestOf (e .state))
+  pub comes : takeReply e t f body ≡ outcome Done (confirmedOf e t) nothing
+
+pub record StepLaws : Type 0 where
+  -- settings never change
+  pub start-keeps : (e : Endpoint) (t : ℕ) → startOf e t .endpoint .settings ≡ e .settings
+  pub restart-keeps : (e : Endpoint) → restartOf e .endpoint .settings ≡ e .settings
+  pub send-keeps : (e : Endpoint) (t : ℕ) (value : List ℕ) → sendOf e t value .endpoint .settings ≡ e .settings
+  pub stop-keeps : (e : Endpoint) (t : ℕ) → stopOf e t .endpoint .settings ≡ e .settings
+  pub deliver-keeps : (e : Endpoint) (t : ℕ) (f : Fields) (body : List ℕ) → deliverOf e t f body .endpoint .settings ≡ e .settings
+  -- what is written can be written and is the endpoint's; start and restart write nothing
+  pub send-carries : (e : Endpoint) (t : ℕ) (value : List ℕ) → Carries e (sendOf e t value .writes)
+  pub stop-carries : (e : Endpoint) (t : ℕ) → Carries e (stopOf e t .writes)
+  pub deliver-carries : (e : Endpoint) (t : ℕ) (f : Fields) (body : List ℕ) → Carries e (deliverOf e t f body .writes)
+  -- a refusal that does not end the connection leaves all as it was
+  pub send-dropped : (e : Endpoint) (t : ℕ) (value : List ℕ) (r : Reason) → sendOf e t value .answer ≡ Dropped r
+      → sendOf e t value ≡ dropped e (Dropped r)
+  pub stop-dropped : (e : Endpoint) (t : ℕ) (r : Reason) → stopOf e t .answer ≡ Dropped r → stopOf e t ≡ dropped e (Dropped r)
+  pub deliver-dropped : (e : Endpoint) (t : ℕ) (f : Fields) (body : List ℕ) (r : Reason) → deliverOf e t f body .answer ≡ Dropped r
+      → deliverOf e t f body ≡ dropped e (Dropped r)
+  -- what done tells
+  pub start-done : (e : Endpoint) (t : ℕ) → startOf e t .answer ≡ Done → StartDone e t
+  pub restart-done : (e : Endpoint) → restartOf e .answer ≡ Done → RestartDone e
+  pub send-done : (e : Endpoint) (t : ℕ) (value : List ℕ) → sendOf e t value .answer ≡ Done → RefreshSent e t value ⊎ RequestSent e t value
+  pub stop-done : (e : Endpoint) (t : ℕ) → stopOf e t .answer ≡ Done → StopDone e t
+  pub refresh-done : (e : Endpoint) (t stamp : ℕ) (body : List ℕ) → takeRefresh e t stamp body .answer ≡ Done → RefreshTaken e t stamp body
+  pub request-done : (e : Endpoint) (t : ℕ) (f : Fields) (body : List ℕ) → is (f .command) K.Disconnect ≡ false
+      → takeRequest e t f body .answer ≡ Done → RequestTaken e t f body
+  pub disconnect-done : (e : Endpoint) (t : ℕ) (f : Fields) (body : List ℕ) → is (f .command) K.Disconnect ≡ true
+      → takeRequest e t f body .answer ≡ Done → DisconnectTaken e t f body
+  pub reply-done : (e : Endpoint) (t : ℕ) (f : Fields) (body : List ℕ) → takeReply e t f body .answer ≡ Done → ReplyTaken e t f body
