@@ -1,0 +1,5 @@
+-- The age theorem: marks and arithmetic, the invariant, its steps.
+pub mod Marks
+pub mod Ages
+pub mod Invariant
+pub mod Kept

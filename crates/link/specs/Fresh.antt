@@ -1,0 +1,58 @@
+-- Demand 3 for two endpoints: every value shown has its send, in order, and is not too old.
+use mathlib.Core.Path.{_≡_}
+use mathlib.Core.Bool.{Bool, true, false, not, cond}
+use mathlib.Core.List.{List}
+use Prim.Native.Nat.{ℕ, suc, _+_, _≤_, _<_}
+use lib.ListN.{length}
+use Rattle.frame.specs.declared.Command.the-variants as K
+use Rattle.frame.specs.Control.{is}
+use Rattle.endpoint.specs.declared.Settings.{Settings}
+use Rattle.link.specs.Runs.{Clocks, Event, Entry, entryAt, Show, showAt, Link, afterAll, begun}
+
+-- settings as a loaded list has them, one end master and the other slave of one CID
+pub record Ticks (s : Settings) : Type 0 where
+  pub interval : s .interval ≤ 65535
+  pub roundtrip : s .roundtrip ≤ 65535
+  pub age : s .age ≤ 65535
+
+pub record Paired (sm ss : Settings) : Type 0 where
+  pub master : sm .slave ≡ false
+  pub slave : ss .slave ≡ true
+  pub ticksM : Ticks sm
+  pub ticksS : Ticks ss
+
+-- the bound at the showing end: A + I at the slave, A + I + R at the master
+abbrev pub boundOf : Settings → ℕ
+boundOf s = s .age + (s .interval + cond (s .slave) 0 (s .roundtrip))
+
+-- the send of a show: by the other end, an S-Refresh of the value shown, and not too old
+pub record ItsSend (bound : ℕ) (x : Show) (w : Entry) : Type 0 where
+  pub other : w .slave ≡ not (x .slave)
+  pub refresh : is (w .fields .command) K.Refresh ≡ true
+  pub value : w .lent ≡ x .bytes
+  pub before : w .moment ≤ x .moment
+  pub young : x .moment ≤ w .moment + bound
+
+pub record Fresh (sm ss : Settings) (l : Link) : Type 0 where
+  -- each show's send stands in the log: the frame of the S-Refresh that the showing end took last before the show
+  pub there : (i : ℕ) → i < length (l .shows) → (1 ≤ showAt (l .shows) i .sent) × (showAt (l .shows) i .sent ≤ length (l .log))
+  pub its-send : (i k : ℕ) → i < length (l .shows) → showAt (l .shows) i .sent ≡ suc k
+      → ItsSend (boundOf (cond (showAt (l .shows) i .slave) ss sm)) (showAt (l .shows) i) (entryAt (l .log) k)
+  -- a later show at the same end never has an earlier send
+  pub in-order : (i j : ℕ) → i < j → j < length (l .shows) → showAt (l .shows) i .slave ≡ showAt (l .shows) j .slave
+      → showAt (l .shows) i .sent ≤ showAt (l .shows) j .sent
+
+-- for every list of calls on two endpoints just loaded
+abbrev pub AgeTheorem : Type 0
+AgeTheorem = (sm ss : Settings) (c : Clocks) (vs : List Event) → Paired sm ss → afterAll c (begun sm ss) vs .allowed ≡ true
+    → Fresh sm ss (afterAll c (begun sm ss) vs)
+
+-- once an end sends no more, every show at the other more than the bound after its last send is fail-safe
+abbrev pub Silence : Type 0
+Silence = (sm ss : Settings) (c : Clocks) (vs : List Event) (slave : Bool) (last : ℕ) → Paired sm ss
+    → afterAll c (begun sm ss) vs .allowed ≡ true
+    → ((k : ℕ) → k < length (afterAll c (begun sm ss) vs .log) → entryAt (afterAll c (begun sm ss) vs .log) k .slave ≡ not slave
+    → is (entryAt (afterAll c (begun sm ss) vs .log) k .fields .command) K.Refresh ≡ true
+    → entryAt (afterAll c (begun sm ss) vs .log) k .moment ≤ last)
+    → (i : ℕ) → i < length (afterAll c (begun sm ss) vs .shows) → showAt (afterAll c (begun sm ss) vs .shows) i .slave ≡ slave
+    → showAt (afterAll c (begun sm ss) vs .shows) i .moment ≤ last + boundOf (cond slave ss sm)

@@ -1,0 +1,3 @@
+-- Two endpoints and the frames between them, in reading order.
+pub mod Runs
+pub mod Fresh

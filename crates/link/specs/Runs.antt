@@ -1,0 +1,218 @@
+-- Two endpoints of one CID over a list of calls (document 01, "What demand 3 runs over"), with frames as fields and bodies.
+use mathlib.Core.Bool.{Bool, true, false, _&&_, not, cond, Bool·beq}
+use mathlib.Core.List.{List, [], _∷_, _++_}
+use Prim.Native.Nat.{ℕ, zero, suc, _+_, _^_, _-_}
+use lib.Dec.{eqb, leb}
+use lib.ListN.{length, getD}
+use Rattle.frame.specs.declared.Command.the-variants as K
+use Rattle.frame.specs.declared.Session.the-variants.{Absent}
+use Rattle.frame.specs.declared.Fields.{Fields}
+use Rattle.frame.specs.Control.{is, sessionBits}
+use Rattle.frame.specs.Reading.{same}
+use Rattle.endpoint.specs.declared.Settings.{Settings}
+use Rattle.endpoint.specs.declared.Endpoint.{Endpoint}
+use Rattle.endpoint.specs.declared.Reason.the-variants as R
+use Rattle.endpoint.specs.declared.Answer.{Answer}
+use Rattle.endpoint.specs.declared.Answer.the-variants.{Done, Dropped, Ended}
+use Rattle.endpoint.specs.Time.{isExpired, endedOf}
+use Rattle.steps.specs.Frames.{Written, nothing, written, plainFields}
+use Rattle.steps.specs.Calls.{Outcome, outcome, freshOf, startOf, restartOf, sendOf, stopOf, isFailSafe, shownOf}
+use Rattle.steps.specs.Deliveries.{deliverOf}
+
+-- ---- moments
+-- a call's moment is its reading plus a constant of its end; document 01's D is the slave's constant less the master's
+pub record Clocks : Type 0 where
+  pub master : ℕ
+  pub slave : ℕ
+
+abbrev pub momentOf : Clocks → Bool → ℕ → ℕ
+momentOf c slave t = t + cond slave (c .slave) (c .master)
+
+-- the highest clock reading
+abbrev pub clockLimit : ℕ
+clockLimit = 281474976645119
+
+-- ---- calls
+pub data Call : Type 0 where
+  start : Call
+  send : List ℕ → Call
+  deliver : Fields → List ℕ → Call
+  stop : Call
+  restart : Call
+  show : Call
+
+-- a call at the slave's end or the master's, with its clock reading
+pub record Event : Type 0 where
+  pub slave : Bool
+  pub clock : ℕ
+  pub call : Call
+
+-- what a call does to an endpoint whose timer has not expired; a show changes nothing
+abbrev pub actOf : Endpoint → ℕ → Call → Outcome
+actOf e t start = startOf e t
+actOf e t (send value) = sendOf e t value
+actOf e t (deliver f body) = deliverOf e t f body
+actOf e t stop = stopOf e t
+actOf e t restart = restartOf e
+actOf e t show = outcome Done e nothing
+
+-- the clock step first: number 9
+abbrev pub callOf : Endpoint → ℕ → Call → Outcome
+callOf e t call = cond (isExpired e t) (outcome (Ended R.Expired) (endedOf e) nothing) (actOf e t call)
+
+-- ---- the frames written, oldest first
+-- by whom, when, the fields and the body, and the value that was lent to the call
+pub record Entry : Type 0 where
+  pub slave : Bool
+  pub moment : ℕ
+  pub fields : Fields
+  pub body : List ℕ
+  pub lent : List ℕ
+
+-- what stands past the end of the log is of no account
+abbrev pub noEntry : Entry
+noEntry = record {
+  slave = false;
+  moment = 0;
+  fields = plainFields K.Connect false false false 0 0 0;
+  body = [];
+  lent = [];
+}
+
+unfoldable pub entryAt : List Entry → ℕ → Entry
+entryAt l i = getD l i noEntry
+
+abbrev pub lentTo : Call → List ℕ
+lentTo start = []
+lentTo (send value) = value
+lentTo (deliver f body) = []
+lentTo stop = []
+lentTo restart = []
+lentTo show = []
+
+abbrev pub logged : Bool → ℕ → Call → Written → List Entry
+logged slave m call nothing = []
+logged slave m call (written f body) =
+    record { slave = slave; moment = m; fields = f; body = body; lent = lentTo call } ∷ []
+
+-- ---- the frame that a deliver hands over is named by its last place in the log
+unfoldable pub sameFields : Fields → Fields → Bool
+sameFields f g =
+    is (f .command) (g .command)
+    && (Bool·beq (f .ack) (g .ack)
+    && (Bool·beq (f .busy) (g .busy)
+    && (Bool·beq (f .error) (g .error)
+    && (Bool·beq (f .sequence) (g .sequence)
+    && (Bool·beq (f .application) (g .application)
+    && (eqb (sessionBits (f .session)) (sessionBits (g .session))
+    && (eqb (f .connection) (g .connection)
+    && (eqb (f .timestamp) (g .timestamp)
+    && eqb (f .baseline) (g .baseline)))))))))
+
+-- one more than the last place, counted on from n; found where none is left
+unfoldable pub lastFrom : ℕ → Fields → List ℕ → List Entry → ℕ → ℕ
+lastFrom n f body [] found = found
+lastFrom n f body (w ∷ l) found =
+    lastFrom (suc n) f body l (cond (sameFields f (w .fields) && same body (w .body)) (suc n) found)
+
+-- 0 where the frame was not written
+unfoldable pub lastOf : Fields → List ℕ → List Entry → ℕ
+lastOf f body l = lastFrom 0 f body l 0
+
+-- ---- what is shown
+pub record Show : Type 0 where
+  pub slave : Bool
+  pub moment : ℕ
+  pub bytes : List ℕ
+  -- one more than the place of the S-Refresh that this end last took
+  pub sent : ℕ
+
+abbrev pub noShow : Show
+noShow = record { slave = false; moment = 0; bytes = []; sent = 0 }
+
+unfoldable pub showAt : List Show → ℕ → Show
+showAt l i = getD l i noShow
+
+-- ---- a run
+pub record Link : Type 0 where
+  pub master : Endpoint
+  pub slave : Endpoint
+  pub log : List Entry
+  pub shows : List Show
+  -- one more than the place of the S-Refresh last taken at each end; 0: none
+  pub masterTook : ℕ
+  pub slaveTook : ℕ
+  pub latest : ℕ
+  -- whether the list kept to what demand 3 runs over
+  pub allowed : Bool
+
+abbrev pub endpointAt : Link → Bool → Endpoint
+endpointAt l slave = cond slave (l .slave) (l .master)
+
+abbrev pub tookAt : Link → Bool → ℕ
+tookAt l slave = cond slave (l .slaveTook) (l .masterTook)
+
+-- a deliver hands over a frame that was written
+abbrev pub mayDeliver : List Entry → Call → Bool
+mayDeliver l start = true
+mayDeliver l (send value) = true
+mayDeliver l (deliver f body) = leb 1 (lastOf f body l)
+mayDeliver l stop = true
+mayDeliver l restart = true
+mayDeliver l show = true
+
+abbrev pub isDone : Answer → Bool
+isDone Done = true
+isDone (Dropped r) = false
+isDone (Ended r) = false
+
+-- one more than the place of what a call took, an S-Refresh that was done; else what was taken before
+abbrev pub tookBy : List Entry → Call → Answer → ℕ → ℕ
+tookBy l start a last = last
+tookBy l (send value) a last = last
+tookBy l (deliver f body) a last = cond (isDone a && is (f .command) K.Refresh) (lastOf f body l) last
+tookBy l stop a last = last
+tookBy l restart a last = last
+tookBy l show a last = last
+
+abbrev pub shownBy : Bool → ℕ → ℕ → Call → Endpoint → List Show
+shownBy slave m took start e = []
+shownBy slave m took (send value) e = []
+shownBy slave m took (deliver f body) e = []
+shownBy slave m took stop e = []
+shownBy slave m took restart e = []
+shownBy slave m took show e =
+    cond (isFailSafe e) [] (record { slave = slave; moment = m; bytes = shownOf e; sent = took } ∷ [])
+
+-- moments never fall, and no reading is past the limit
+abbrev pub afterEvent : Clocks → Link → Event → Link
+afterEvent c l v =
+    let o = callOf (endpointAt l (v .slave)) (v .clock) (v .call) in
+    let m = momentOf c (v .slave) (v .clock) in
+    record {
+      master = cond (v .slave) (l .master) (o .endpoint);
+      slave = cond (v .slave) (o .endpoint) (l .slave);
+      log = l .log ++ logged (v .slave) m (v .call) (o .writes);
+      shows = l .shows ++ shownBy (v .slave) m (tookAt l (v .slave)) (v .call) (o .endpoint);
+      masterTook = cond (v .slave) (l .masterTook) (tookBy (l .log) (v .call) (o .answer) (l .masterTook));
+      slaveTook = cond (v .slave) (tookBy (l .log) (v .call) (o .answer) (l .slaveTook)) (l .slaveTook);
+      latest = m;
+      allowed = l .allowed && (mayDeliver (l .log) (v .call) && (leb (l .latest) m && leb (v .clock) clockLimit));
+    }
+
+abbrev pub afterAll : Clocks → Link → List Event → Link
+afterAll c l [] = l
+afterAll c l (v ∷ vs) = afterAll c (afterEvent c l v) vs
+
+-- two endpoints just loaded
+abbrev pub begun : Settings → Settings → Link
+begun sm ss = record {
+  master = freshOf sm;
+  slave = freshOf ss;
+  log = [];
+  shows = [];
+  masterTook = 0;
+  slaveTook = 0;
+  latest = 0;
+  allowed = true;
+}
