@@ -3,3 +3,4 @@ pub mod Marks
 pub mod Ages
 pub mod Invariant
 pub mod Kept
+pub mod Relation

@@ -1,0 +1,164 @@
+-- Two endpoints and their log against the invariant's master, slave and marks.
+use mathlib.Core.Path.{_≡_, refl, sym, ap, subst, _∙_}
+use mathlib.Core.Bool.{Bool, true, false, _&&_, _||_, not, cond, true≢false, false≢true}
+use mathlib.Core.List.{List, [], _∷_, _++_, map}
+use mathlib.Core.Option.{Option, some, none}
+use Prim.Native.Nat.{ℕ, zero, suc, _+_, _-_, _*_, _%_, _≤_, _<_}
+use native.Mathlib.Omega.{arith}
+use lib.Dec.{eqb, ltb}
+use lib.ListN.{length, getD}
+use borrow.Author.Tests.{ltb-true, ltb-false}
+use Rattle.frame.specs.declared.Command.the-variants as K
+use Rattle.frame.specs.declared.Fields.{Fields}
+use Rattle.frame.specs.Control.{is, codeOf}
+use Rattle.endpoint.specs.declared.Settings.{Settings}
+use Rattle.endpoint.specs.declared.State.the-variants.{Refresh, RefreshPending}
+use Rattle.endpoint.specs.declared.Timestamp.{Timestamp}
+use Rattle.endpoint.specs.declared.Timestamp.the-variants.{Never, At}
+use Rattle.endpoint.specs.declared.Pending.the-variants.{Nothing, Asked}
+use Rattle.endpoint.specs.declared.Endpoint.{Endpoint}
+use Rattle.endpoint.specs.Table.{isState, isSetup, requestOf}
+use Rattle.endpoint.specs.Time.{span, masterTime, isAbove, isExpired}
+use Rattle.steps.specs.Frames.{showWidth, timeOf}
+use Rattle.steps.specs.Deliveries.{paddedOf}
+use Rattle.link.specs.Runs.{Clocks, clockLimit, Entry, noEntry, entryAt}
+use Rattle.link.specs.Fresh.{Ticks, Paired}
+use Rattle.link.proofs.Marks.{Mark, mark, size, at, snoc}
+use Rattle.link.proofs.Invariant.{Terms, Small, MPhase, restM, asked, got, liveM, Master, SPhase, restS, armed, liveS, Slave, Inv}
+
+-- ---- what the invariant's numbers are
+abbrev pub termsOf : Clocks → Settings → Settings → Terms
+termsOf c sm ss = record {
+  cm = c .master;
+  cs = c .slave;
+  tripM = sm .roundtrip;
+  tripS = ss .roundtrip;
+  holdM = sm .interval;
+  holdS = ss .interval;
+  ageM = sm .age;
+  ageS = ss .age;
+}
+
+pub small-of : (c : Clocks) (sm ss : Settings) → Paired sm ss → Small (termsOf c sm ss)
+small-of c sm ss p = record {
+  tripM = p .ticksM .roundtrip;
+  tripS = p .ticksS .roundtrip;
+  holdM = p .ticksM .interval;
+  holdS = p .ticksS .interval;
+  ageM = p .ticksM .age;
+  ageS = p .ticksS .age;
+}
+
+-- 0 the master, 1 the slave's reply, 2 the slave's S-Refresh
+abbrev pub whoOf : Fields → ℕ
+whoOf f = cond (f .application) (cond (is (f .command) K.Refresh) 2 1) 0
+
+abbrev pub markOf : Entry → Mark
+markOf w = mark (whoOf (w .fields)) (codeOf (w .fields .command)) (w .fields .timestamp) (w .fields .baseline) (w .moment) (w .body)
+
+unfoldable pub marks : List Entry → List Mark
+marks l = map markOf l
+
+-- one above a remembered timestamp
+abbrev pub topOf : Timestamp → ℕ
+topOf Never = 0
+topOf (At r) = suc r
+
+pub above-top : (o : Timestamp) (s : ℕ) → isAbove o s ≡ true → topOf o ≤ s
+above-top Never s h = omega arith
+above-top (At r) s h = ltb-true r s h
+
+-- ---- the value held
+abbrev pub Holds : Endpoint → Option (List ℕ) → Type 0
+Holds e none = e .value .taken ≡ false
+Holds e (some b) = (e .value .taken ≡ true) × (e .value .bytes ≡ paddedOf b) × (length b ≡ showWidth (e .settings))
+
+-- ---- a master
+pub record LiveAtM (e : Endpoint) (m : Master) : Type 0 where
+  pub value : Option (List ℕ)
+  pub phase : m .phase ≡ liveM (e .since) value
+  pub holds : Holds e value
+
+pub record AskedAt (e : Endpoint) (m : Master) (s : ℕ) : Type 0 where
+  pub since : s ≡ e .since
+  pub phase : m .phase ≡ asked (codeOf (requestOf (e .state))) s
+
+pub record GotAt (e : Endpoint) (m : Master) : Type 0 where
+  pub phase : m .phase ≡ got (e .setup .measured)
+  pub since : e .since ≡ e .setup .measured
+
+pub record RelM (e : Endpoint) (took : ℕ) (m : Master) : Type 0 where
+  pub nextOut : topOf (e .timestamps .sent) ≡ m .nextOut
+  pub nextIn : topOf (e .timestamps .accepted) ≡ m .nextIn
+  pub held : took ≡ m .held
+  pub live : isState (e .state) Refresh ≡ true → LiveAtM e m
+  pub pend : isSetup (e .state) ≡ true → (s : ℕ) → e .setup .pending ≡ Asked s → AskedAt e m s
+  pub ready : isState (e .state) RefreshPending ≡ true → e .setup .pending ≡ Nothing → GotAt e m
+
+-- ---- a slave
+pub record LiveAtS (e : Endpoint) (s : Slave) : Type 0 where
+  pub value : Option (List ℕ)
+  pub phase : s .phase ≡ liveS (e .setup .offset) (e .since) value
+  pub holds : Holds e value
+
+pub record ArmedAt (e : Endpoint) (s : Slave) : Type 0 where
+  pub phase : s .phase ≡ armed (e .setup .measured)
+  pub since : e .since ≡ e .setup .measured
+
+pub record RelS (e : Endpoint) (took : ℕ) (s : Slave) : Type 0 where
+  pub nextOut : topOf (e .timestamps .sent) ≡ s .nextOut
+  pub nextIn : topOf (e .timestamps .accepted) ≡ s .nextIn
+  pub held : took ≡ s .held
+  pub live : isState (e .state) Refresh ≡ true → LiveAtS e s
+  pub ready : isState (e .state) RefreshPending ≡ true → ArmedAt e s
+
+-- ---- both, and the log
+-- an entry's frame tells its writer, and an S-Refresh its lent value
+pub record Honest (w : Entry) : Type 0 where
+  pub writer : w .fields .application ≡ w .slave
+  pub value : is (w .fields .command) K.Refresh ≡ true → w .lent ≡ w .body
+
+pub record Linked (c : Clocks) (sm ss : Settings) (now : ℕ) (l : List Entry) (em es : Endpoint) (tm ts : ℕ) : Type 0 where
+  pub master : Master
+  pub slave : Slave
+  pub setM : em .settings ≡ sm
+  pub setS : es .settings ≡ ss
+  pub relM : RelM em tm master
+  pub relS : RelS es ts slave
+  pub honest : (i : ℕ) → i < length l → Honest (entryAt l i)
+  pub inv : Inv (termsOf c sm ss) now (marks l) master slave
+
+-- ---- timers that have not expired, and times
+in-setup : (a b x y : Bool) → ((a && x) || (b && y)) ≡ false → a ≡ true → x ≡ false
+in-setup true b true y h p = absurd (true≢false h)
+in-setup true b false y h p = refl
+in-setup false b x y h p = absurd (false≢true p)
+
+in-refresh : (a b x y : Bool) → ((a && x) || (b && y)) ≡ false → b ≡ true → y ≡ false
+in-refresh true true true y h p = absurd (true≢false h)
+in-refresh true true false y h p = h
+in-refresh false true x y h p = h
+in-refresh a false x y h p = absurd (false≢true p)
+
+module _ (e : Endpoint) (t : ℕ) (h : isExpired e t ≡ false) where
+  pub setup-timer : isSetup (e .state) ≡ true → t ≤ e .since + e .settings .roundtrip
+  setup-timer p =
+      let r = ltb (e .settings .roundtrip) (t - e .since) in
+      let i = ltb (e .settings .interval) (t - e .since) in
+      let z = ltb-false (e .settings .roundtrip) (t - e .since) (in-setup (isSetup (e .state)) (isState (e .state) Refresh) r i h p) in
+      omega arith
+
+  pub refresh-timer : isState (e .state) Refresh ≡ true → t ≤ e .since + e .settings .interval
+  refresh-timer p =
+      let r = ltb (e .settings .roundtrip) (t - e .since) in
+      let i = ltb (e .settings .interval) (t - e .since) in
+      let z = ltb-false (e .settings .interval) (t - e .since) (in-refresh (isSetup (e .state)) (isState (e .state) Refresh) r i h p) in
+      omega arith
+
+pub master-time : (e : Endpoint) (t : ℕ) → e .settings .slave ≡ false → t ≤ clockLimit → timeOf e t ≡ t
+master-time e t h k =
+    let p : masterTime (e .settings .slave) (e .setup .offset) t ≡ (t + 0) % span = ap (λ (b : Bool). masterTime b (e .setup .offset) t) h in
+    p ∙ omega arith
+
+pub slave-time : (e : Endpoint) (t : ℕ) → e .settings .slave ≡ true → timeOf e t ≡ (t + e .setup .offset) % span
+slave-time e t h = ap (λ (b : Bool). masterTime b (e .setup .offset) t) h
