@@ -41,7 +41,7 @@ code-le RefreshReady = lit≤ tt
 code-le RefreshGo = lit≤ tt
 code-le Refresh = lit≤ tt
 
-command-of-code : (k : Command) → commandOf (codeOf k) ≡ k
+pub command-of-code : (k : Command) → commandOf (codeOf k) ≡ k
 command-of-code Connect = refl
 command-of-code ConfirmNetwork = refl
 command-of-code VerifyStation = refl

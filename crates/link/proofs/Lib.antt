@@ -4,3 +4,7 @@ pub mod Ages
 pub mod Invariant
 pub mod Kept
 pub mod Relation
+pub mod Entries
+pub mod Codes
+pub mod Shown
+pub mod AtMaster

@@ -7,7 +7,7 @@ use Prim.Native.Nat.{ℕ, zero, suc, _+_, _-_, _*_, _%_, _≤_, _<_}
 use native.Mathlib.Omega.{arith}
 use lib.Dec.{eqb, ltb}
 use lib.ListN.{length, getD}
-use borrow.Author.Tests.{ltb-true, ltb-false}
+use borrow.Author.Tests.{ltb-true, ltb-false, le-leb, lt-leb}
 use Rattle.frame.specs.declared.Command.the-variants as K
 use Rattle.frame.specs.declared.Fields.{Fields}
 use Rattle.frame.specs.Control.{is, codeOf}
@@ -16,13 +16,15 @@ use Rattle.endpoint.specs.declared.State.the-variants.{Refresh, RefreshPending}
 use Rattle.endpoint.specs.declared.Timestamp.{Timestamp}
 use Rattle.endpoint.specs.declared.Timestamp.the-variants.{Never, At}
 use Rattle.endpoint.specs.declared.Pending.the-variants.{Nothing, Asked}
+use Rattle.endpoint.specs.declared.Value.{Value}
 use Rattle.endpoint.specs.declared.Endpoint.{Endpoint}
 use Rattle.endpoint.specs.Table.{isState, isSetup, requestOf}
-use Rattle.endpoint.specs.Time.{span, masterTime, isAbove, isExpired}
+use Rattle.endpoint.specs.Time.{span, half, masterTime, isAbove, isAhead, isTooFarAhead, isTooLate, isExpired}
 use Rattle.steps.specs.Frames.{showWidth, timeOf}
 use Rattle.steps.specs.Deliveries.{paddedOf}
 use Rattle.link.specs.Runs.{Clocks, clockLimit, Entry, noEntry, entryAt}
 use Rattle.link.specs.Fresh.{Ticks, Paired}
+use Rattle.link.proofs.Ages.{Young}
 use Rattle.link.proofs.Marks.{Mark, mark, size, at, snoc}
 use Rattle.link.proofs.Invariant.{Terms, Small, MPhase, restM, asked, got, liveM, Master, SPhase, restS, armed, liveS, Slave, Inv}
 
@@ -69,15 +71,15 @@ above-top Never s h = omega arith
 above-top (At r) s h = ltb-true r s h
 
 -- ---- the value held
-abbrev pub Holds : Endpoint → Option (List ℕ) → Type 0
-Holds e none = e .value .taken ≡ false
-Holds e (some b) = (e .value .taken ≡ true) × (e .value .bytes ≡ paddedOf b) × (length b ≡ showWidth (e .settings))
+abbrev pub Holds : Settings → Value → Option (List ℕ) → Type 0
+Holds s v none = v .taken ≡ false
+Holds s v (some b) = (v .taken ≡ true) × (v .bytes ≡ paddedOf b) × (length b ≡ showWidth s)
 
 -- ---- a master
 pub record LiveAtM (e : Endpoint) (m : Master) : Type 0 where
   pub value : Option (List ℕ)
   pub phase : m .phase ≡ liveM (e .since) value
-  pub holds : Holds e value
+  pub holds : Holds (e .settings) (e .value) value
 
 pub record AskedAt (e : Endpoint) (m : Master) (s : ℕ) : Type 0 where
   pub since : s ≡ e .since
@@ -99,7 +101,7 @@ pub record RelM (e : Endpoint) (took : ℕ) (m : Master) : Type 0 where
 pub record LiveAtS (e : Endpoint) (s : Slave) : Type 0 where
   pub value : Option (List ℕ)
   pub phase : s .phase ≡ liveS (e .setup .offset) (e .since) value
-  pub holds : Holds e value
+  pub holds : Holds (e .settings) (e .value) value
 
 pub record ArmedAt (e : Endpoint) (s : Slave) : Type 0 where
   pub phase : s .phase ≡ armed (e .setup .measured)
@@ -162,3 +164,20 @@ master-time e t h k =
 
 pub slave-time : (e : Endpoint) (t : ℕ) → e .settings .slave ≡ true → timeOf e t ≡ (t + e .setup .offset) % span
 slave-time e t h = ap (λ (b : Bool). masterTime b (e .setup .offset) t) h
+
+-- ---- an age that is neither too far ahead nor too late
+late-false : (a b : Bool) → (a && b) ≡ false → a ≡ true → b ≡ false
+late-false true b h p = h
+late-false false b h p = absurd (false≢true p)
+
+pub young-of : (age allowance limit age′ allowance′ limit′ : ℕ) → age ≡ age′ → allowance ≡ allowance′ → limit ≡ limit′
+    → isTooFarAhead age allowance ≡ false → isTooLate age limit ≡ false → Young age′ allowance′ limit′
+young-of age allowance limit age′ allowance′ limit′ p q r far late = record {
+  early = λ h.
+      let z = ltb-false allowance (span - age) (late-false (isAhead age) (ltb allowance (span - age)) far (le-leb half age (omega arith))) in
+      omega arith;
+  late = λ h.
+      let y : not (isAhead age) ≡ true = ap not (lt-leb half age (omega arith)) in
+      let z = ltb-false limit age (late-false (not (isAhead age)) (ltb limit age) late y) in
+      omega arith;
+}

@@ -1,0 +1,395 @@
+-- Each call at the master keeps the relation to the invariant.
+use mathlib.Core.Path.{_≡_, refl, sym, ap, subst, _∙_}
+use mathlib.Core.Bool.{Bool, true, false, _&&_, not, cond, true≢false, false≢true}
+use mathlib.Core.List.{List, [], _∷_, _++_}
+use mathlib.Core.Option.{Option, some, none}
+use mathlib.Core.Logic.{_⊎_, inl, inr, ⊎-elim}
+use Prim.Native.Nat.{ℕ, zero, suc, _+_, _-_, _*_, _%_, _≤_, _<_}
+use native.Mathlib.Omega.{arith}
+use lib.Dec.{eqb}
+use lib.ListN.{length}
+use borrow.Author.Tests.{eqb-true}
+use Rattle.frame.specs.declared.Command.{Command}
+use Rattle.frame.specs.declared.Command.the-variants as K
+use Rattle.frame.specs.declared.Fields.{Fields}
+use Rattle.frame.specs.Control.{is, codeOf}
+use Rattle.endpoint.specs.declared.Settings.{Settings}
+use Rattle.endpoint.specs.declared.State.{State}
+use Rattle.endpoint.specs.declared.State.the-variants.{Close, Starting, EstablishPending, Establish, ParamVerify, RefreshPending, Refresh, Terminate}
+use Rattle.endpoint.specs.declared.Timestamps.{Timestamps}
+use Rattle.endpoint.specs.declared.Pending.the-variants.{Nothing, Asked}
+use Rattle.endpoint.specs.declared.Endpoint.{Endpoint}
+use Rattle.endpoint.specs.Table.{isState, isSetup, requestOf}
+use Rattle.endpoint.specs.Time.{span, minus, isExpired, endedOf, allowanceOf}
+use Rattle.steps.specs.Frames.{setupData, timeOf, baselineOf, requestFields, refreshFields, disconnectFields}
+use Rattle.steps.specs.Calls.{startedOf, restartedOf, requestedOf, refreshSentOf, stoppedOf, isFailSafe, shownOf}
+use Rattle.steps.specs.Deliveries.{ageOf, paddedOf, refreshedOf, confirmedOf}
+use Rattle.steps.specs.Laws.{RequestSent, RefreshSent, StopDone, ReplyTaken, RefreshTaken}
+use Rattle.steps.proofs.Dispatch.{cond-true, cond-false}
+use Rattle.link.specs.Runs.{Clocks, clockLimit, Entry, entryAt}
+use Rattle.link.specs.Fresh.{Ticks, Paired}
+use Rattle.link.proofs.Marks.{Mark, mark, size, at, snoc, Has}
+use Rattle.link.proofs.Invariant.{Terms, Small, MPhase, restM, asked, got, liveM, Master, Slave, Inv, MPh, GoOf, Held, ValueOf, wobble}
+use Rattle.link.proofs.Kept.{m-phase, m-got, m-writes, m-goes, m-takes, held-rises}
+use Rattle.link.proofs.Relation.{termsOf, small-of, whoOf, markOf, marks, topOf, above-top, Holds, LiveAtM, AskedAt, GotAt, RelM, RelS, Honest, Linked, setup-timer, refresh-timer, master-time, young-of}
+use Rattle.link.proofs.Ages.{Young, young-more}
+use Rattle.link.proofs.Entries.{marks-snoc, size-marks, at-marks, honest-snoc, is-eq, FoundAt}
+use Rattle.link.proofs.Shown.{ShownAt, in-refresh, is-taken, shown-is}
+use Rattle.link.proofs.Codes.{go-due, go-baseline, request-not-refresh, setup-not-refresh, refresh-not-setup, pending-setup}
+
+module _ (c : Clocks) (sm ss : Settings) (p : Paired sm ss) {l : List Entry} {em es : Endpoint} {tm ts : ℕ} (t : ℕ) (lim : t ≤ clockLimit)
+    (L : Linked c sm ss (t + c .master) l em es tm ts) where
+  T : Terms
+  T = termsOf c sm ss
+
+  ok : Small (termsOf c sm ss)
+  ok = small-of c sm ss p
+
+  role : em .settings .slave ≡ false
+  role = ap (λ (s : Settings). s .slave) (L .setM) ∙ p .master
+
+  time : timeOf em t ≡ t
+  time = master-time em t role lim
+
+  -- an endpoint that waits for nothing
+  rest : (e : Endpoint) → e .settings ≡ sm → topOf (e .timestamps .sent) ≡ topOf (em .timestamps .sent)
+      → topOf (e .timestamps .accepted) ≡ topOf (em .timestamps .accepted) → isState (e .state) Refresh ≡ false
+      → (isSetup (e .state) ≡ true → e .setup .pending ≡ Nothing) → isState (e .state) RefreshPending ≡ false
+      → Linked c sm ss (t + c .master) l e es tm ts
+  rest e s o i r n k =
+      let q = L .relM in
+      record {
+        master = record { nextOut = L .master .nextOut; nextIn = L .master .nextIn; held = L .master .held; phase = restM };
+        slave = L .slave;
+        setM = s;
+        setS = L .setS;
+        relM = record {
+          nextOut = o ∙ q .nextOut;
+          nextIn = i ∙ q .nextIn;
+          held = q .held;
+          live = λ h. absurd (true≢false (sym h ∙ r));
+          pend = λ h x d. let z : _≡_ {A = ℕ} 0 1 = let y = n h in cc in absurd (omega arith);
+          ready = λ h d. absurd (true≢false (sym h ∙ k));
+        };
+        relS = L .relS;
+        honest = L .honest;
+        inv = m-phase (termsOf c sm ss) (small-of c sm ss p) restM tt (L .inv);
+      }
+
+  pub ended-m : Linked c sm ss (t + c .master) l (endedOf em) es tm ts
+  ended-m = rest (endedOf em) (L .setM) refl refl refl (λ h. absurd (false≢true h)) refl
+
+  pub started-m : Linked c sm ss (t + c .master) l (startedOf em t) es tm ts
+  started-m = rest (startedOf em t) (L .setM) refl refl refl (λ h. refl) refl
+
+  pub restarted-m : Linked c sm ss (t + c .master) l (restartedOf em) es tm ts
+  restarted-m = rest (restartedOf em) (L .setM) refl refl refl (λ h. absurd (false≢true h)) refl
+
+  -- a frame is written; the endpoint is then another
+  wrote : (e : Endpoint) (w : Entry) (code baseline : ℕ) (body : List ℕ) (phase : MPhase) → e .settings ≡ sm
+      → markOf w ≡ mark 0 code t baseline (t + c .master) body → Honest w → topOf (em .timestamps .sent) ≤ t
+      → (code ≡ 254 → Has (GoOf (termsOf c sm ss) (marks l) (mark 0 code t baseline (t + c .master) body)) (marks l))
+      → MPh (termsOf c sm ss) (marks l) (suc t) (L .master .held) phase
+      → RelM e tm (record { nextOut = suc t; nextIn = L .master .nextIn; held = L .master .held; phase = phase })
+      → Linked c sm ss (t + c .master) (l ++ (w ∷ [])) e es tm ts
+  wrote e w code baseline body phase s m h a g ph r =
+      let M : Master = record { nextOut = suc t; nextIn = L .master .nextIn; held = L .master .held; phase = phase } in
+      record {
+        master = M;
+        slave = L .slave;
+        setM = s;
+        setS = L .setS;
+        relM = r;
+        relS = L .relS;
+        honest = honest-snoc l w (L .honest) h;
+        inv = subst (λ (x : List Mark). Inv (termsOf c sm ss) (t + c .master) x M (L .slave))
+            (sym (marks-snoc l w ∙ ap (snoc (marks l)) m))
+            (m-writes (termsOf c sm ss) (small-of c sm ss p) t code baseline body phase refl (omega arith)
+            (let o = L .relM .nextOut in omega arith) g ph (L .inv));
+      }
+
+  -- the request that is due
+  module _ (value : List ℕ) (d : RequestSent em t value) (x : isExpired em t ≡ false) where
+    abbrev pub asking : Entry
+    asking = record {
+      slave = false;
+      moment = t + c .master;
+      fields = requestFields em t;
+      body = setupData (em .settings) (requestOf (em .state));
+      lent = value;
+    }
+
+    above-t : topOf (em .timestamps .sent) ≤ t
+    above-t = let z = above-top (em .timestamps .sent) (timeOf em t) (d .above) in let y = time in omega arith
+
+    asked-mark : markOf asking ≡ mark 0 (codeOf (requestOf (em .state))) t (baselineOf (requestOf (em .state)) t (em .setup .measured)) (t + c .master) (setupData (em .settings) (requestOf (em .state)))
+    asked-mark = λ i. mark 0 (codeOf (requestOf (em .state))) (time i) (baselineOf (requestOf (em .state)) t (em .setup .measured)) (t + c .master) (setupData (em .settings) (requestOf (em .state)))
+
+    asked-honest : Honest asking
+    asked-honest = record { writer = refl; value = λ h. absurd (true≢false (sym h ∙ request-not-refresh (em .state))) }
+
+    go-asked : codeOf (requestOf (em .state)) ≡ 254
+        → Has (GoOf (termsOf c sm ss) (marks l) (mark 0 (codeOf (requestOf (em .state))) t (baselineOf (requestOf (em .state)) t (em .setup .measured)) (t + c .master) (setupData (em .settings) (requestOf (em .state))))) (marks l)
+    go-asked h =
+        let k = go-due (em .state) h in
+        let g = L .relM .ready k (d .idle) in
+        let b = go-baseline (em .state) t (em .setup .measured) k in
+        let u = setup-timer em t x (d .setup) in
+        let r : em .settings .roundtrip ≤ 65535 = subst (λ (s : Settings). s .roundtrip ≤ 65535) (sym (L .setM)) (p .ticksM .roundtrip) in
+        let i = g .since in
+        let o = L .relM .nextOut in
+        let a = above-t in
+        m-goes (termsOf c sm ss) (small-of c sm ss p) t (em .setup .measured) (codeOf (requestOf (em .state)))
+        (baselineOf (requestOf (em .state)) t (em .setup .measured)) (setupData (em .settings) (requestOf (em .state)))
+        (g .phase) refl (omega arith) (omega arith) (L .inv)
+
+    pub requested-m : Linked c sm ss (t + c .master) (l ++ (asking ∷ [])) (requestedOf em t) es tm ts
+    requested-m =
+        let q = L .relM in
+        let n = setup-not-refresh (em .state) (d .setup) in
+        wrote (requestedOf em t) asking (codeOf (requestOf (em .state))) (baselineOf (requestOf (em .state)) t (em .setup .measured))
+        (setupData (em .settings) (requestOf (em .state))) (asked (codeOf (requestOf (em .state))) t) (L .setM) asked-mark asked-honest
+        above-t go-asked refl
+        (record {
+          nextOut = ap suc time;
+          nextIn = q .nextIn;
+          held = q .held;
+          live = λ h. absurd (true≢false (sym h ∙ n));
+          pend = λ h s e. let z : s ≡ t = (let y : timeOf em t ≡ s = cc in sym y ∙ time) in record { since = z; phase = ap (asked (codeOf (requestOf (em .state)))) (sym z) };
+          ready = λ h e. let z : _≡_ {A = ℕ} 0 1 = cc in absurd (omega arith);
+        })
+
+  -- S-Refresh with the lent value
+  module _ (value : List ℕ) (d : RefreshSent em t value) where
+    abbrev pub refreshing : Entry
+    refreshing = record { slave = false; moment = t + c .master; fields = refreshFields em t; body = value; lent = value }
+
+    refresh-mark : markOf refreshing ≡ mark 0 255 t 0 (t + c .master) value
+    refresh-mark = λ i. mark (cond (role i) 2 0) 255 (time i) 0 (t + c .master) value
+
+    refresh-above : topOf (em .timestamps .sent) ≤ t
+    refresh-above = let z = above-top (em .timestamps .sent) (timeOf em t) (d .above) in let y = time in omega arith
+
+    live-again : (f : MPhase) (v : Option (List ℕ)) → f ≡ liveM (em .since) v → MPh (termsOf c sm ss) (marks l) (L .master .nextOut) (L .master .held) f
+        → MPh (termsOf c sm ss) (marks l) (suc t) (L .master .held) f
+    live-again f v e h =
+        subst (MPh (termsOf c sm ss) (marks l) (suc t) (L .master .held)) (sym e)
+        (subst (MPh (termsOf c sm ss) (marks l) (L .master .nextOut) (L .master .held)) e h)
+
+    pub refresh-sent-m : Linked c sm ss (t + c .master) (l ++ (refreshing ∷ [])) (refreshSentOf em t) es tm ts
+    refresh-sent-m =
+        let q = L .relM in
+        let v = q .live (d .refresh) in
+        let n = refresh-not-setup (em .state) (d .refresh) in
+        wrote (refreshSentOf em t) refreshing 255 0 value (L .master .phase) (L .setM) refresh-mark
+        (record { writer = role; value = λ h. refl }) refresh-above (λ h. absurd (omega arith))
+        (live-again (L .master .phase) (v .value) (v .phase) (L .inv .master .phase))
+        (record {
+          nextOut = ap suc time;
+          nextIn = q .nextIn;
+          held = q .held;
+          live = λ h. record { value = v .value; phase = v .phase; holds = v .holds };
+          pend = λ h s e. absurd (true≢false (sym h ∙ n));
+          ready = λ h e. absurd (true≢false (sym (pending-setup (em .state) h) ∙ n));
+        })
+
+  -- S-Disconnect
+  module _ (d : StopDone em t) where
+    abbrev pub leaving : Entry
+    leaving = record {
+      slave = false;
+      moment = t + c .master;
+      fields = disconnectFields em t;
+      body = setupData (em .settings) K.Disconnect;
+      lent = [];
+    }
+
+    leaving-mark : markOf leaving ≡ mark 0 249 t 0 (t + c .master) (setupData (em .settings) K.Disconnect)
+    leaving-mark = λ i. mark 0 249 (time i) 0 (t + c .master) (setupData (em .settings) K.Disconnect)
+
+    stop-stamp : topOf (stoppedOf em t .timestamps .sent) ≡ suc t
+    stop-stamp = ap (λ (b : Timestamps). topOf (b .sent)) (cond-false (em .settings .slave) _ _ role) ∙ ap suc time
+
+    stop-accepted : topOf (stoppedOf em t .timestamps .accepted) ≡ topOf (em .timestamps .accepted)
+    stop-accepted = ap (λ (b : Timestamps). topOf (b .accepted)) (cond-false (em .settings .slave) _ _ role)
+
+    pub stopped-m : Linked c sm ss (t + c .master) (l ++ (leaving ∷ [])) (stoppedOf em t) es tm ts
+    stopped-m =
+        let q = L .relM in
+        let z = above-top (em .timestamps .sent) (timeOf em t) (d .above role) in
+        let y = time in
+        wrote (stoppedOf em t) leaving 249 0 (setupData (em .settings) K.Disconnect) restM (L .setM) leaving-mark
+        (record { writer = refl; value = λ h. absurd (false≢true h) }) (omega arith) (λ h. absurd (omega arith)) tt
+        (record {
+          nextOut = stop-stamp;
+          nextIn = stop-accepted ∙ q .nextIn;
+          held = q .held;
+          live = λ h. absurd (false≢true h);
+          pend = λ h s e. absurd (false≢true h);
+          ready = λ h e. absurd (false≢true h);
+        })
+
+  -- ---- a frame of the log, at place k, that the slave wrote
+  module _ (f : Fields) (body : List ℕ) (k : ℕ) (g : FoundAt f body l k) (slaves : f .application ≡ true) where
+    in-log : k < size (marks l)
+    in-log = let z = g .there in let y = size-marks l in omega arith
+
+    the-mark : at (marks l) k ≡ mark (whoOf f) (codeOf (f .command)) (f .timestamp) (f .baseline) (entryAt l k .moment) body
+    the-mark =
+        at-marks l k (g .there)
+        ∙ (λ i. mark (whoOf (g .fields i)) (codeOf (g .fields i .command)) (g .fields i .timestamp) (g .fields i .baseline) (entryAt l k .moment) (g .bodies i))
+
+    who-is : (b : Bool) → is (f .command) K.Refresh ≡ b → whoOf f ≡ cond b 2 1
+    who-is b h = (λ i. cond (slaves i) (cond (h i) 2 1) 0)
+
+    -- the reply to the pending request
+    module _ (d : ReplyTaken em t f body) (x : isExpired em t ≡ false) where
+      due : f .command ≡ requestOf (em .state)
+      due = is-eq (f .command) (requestOf (em .state)) (d .command)
+
+      not-refresh : is (f .command) K.Refresh ≡ false
+      not-refresh = ap (λ (q : Command). is q K.Refresh) due ∙ request-not-refresh (em .state)
+
+      confirmed : (s : State) → em .state ≡ s → isSetup s ≡ true → Linked c sm ss (t + c .master) l (confirmedOf em t) es tm ts
+      confirmed Close e h = absurd (false≢true h)
+      confirmed Starting e h = rest (confirmedOf em t) (L .setM) refl refl (rw e) (λ z. refl) (rw e)
+      confirmed EstablishPending e h = rest (confirmedOf em t) (L .setM) refl refl (rw e) (λ z. refl) (rw e)
+      confirmed Establish e h = rest (confirmedOf em t) (L .setM) refl refl (rw e) (λ z. refl) (rw e)
+      confirmed ParamVerify e h =
+          let q = L .relM in
+          let a = q .pend (d .setup) (f .timestamp) (d .pending) in
+          let u = setup-timer em t x (d .setup) in
+          let r : em .settings .roundtrip ≡ sm .roundtrip = ap (λ (y : Settings). y .roundtrip) (L .setM) in
+          let i = a .since in
+          let s2 : confirmedOf em t .state ≡ RefreshPending = rw e in
+          let m2 : confirmedOf em t .setup .measured ≡ t = rw e in
+          let ph : L .master .phase ≡ asked 252 (f .timestamp) = a .phase ∙ ap (λ (y : State). asked (codeOf (requestOf y)) (f .timestamp)) e in
+          let w1 : at (marks l) k .who ≡ 1 = ap (λ (y : Mark). y .who) the-mark ∙ who-is false not-refresh in
+          let w2 : at (marks l) k .code ≡ 252 = ap (λ (y : Mark). y .code) the-mark ∙ ap codeOf due ∙ ap (λ (y : State). codeOf (requestOf y)) e in
+          let w3 : at (marks l) k .stamp ≡ f .timestamp = ap (λ (y : Mark). y .stamp) the-mark in
+          record {
+            master = record { nextOut = L .master .nextOut; nextIn = L .master .nextIn; held = L .master .held; phase = got t };
+            slave = L .slave;
+            setM = L .setM;
+            setS = L .setS;
+            relM = record {
+              nextOut = q .nextOut;
+              nextIn = q .nextIn;
+              held = q .held;
+              live = λ z. absurd (false≢true (sym (ap (λ (y : State). isState y Refresh) s2) ∙ z));
+              pend = λ z y o. let v : _≡_ {A = ℕ} 0 1 = cc in absurd (omega arith);
+              ready = λ z y. record { phase = ap got (sym m2); since = sym m2 };
+            };
+            relS = L .relS;
+            honest = L .honest;
+            inv = m-got (termsOf c sm ss) (small-of c sm ss p) t (f .timestamp) k ph (omega arith) (omega arith) in-log w1 w2 w3 (L .inv);
+          }
+      confirmed RefreshPending e h =
+          let q = L .relM in
+          let s2 : confirmedOf em t .state ≡ Refresh = rw e in
+          record {
+            master = record { nextOut = L .master .nextOut; nextIn = L .master .nextIn; held = L .master .held; phase = liveM t none };
+            slave = L .slave;
+            setM = L .setM;
+            setS = L .setS;
+            relM = record {
+              nextOut = q .nextOut;
+              nextIn = q .nextIn;
+              held = q .held;
+              live = λ z. record { value = none; phase = refl; holds = refl };
+              pend = λ z y o. let v : _≡_ {A = ℕ} 0 1 = cc in absurd (omega arith);
+              ready = λ z y. absurd (false≢true (sym (ap (λ (y : State). isState y RefreshPending) s2) ∙ z));
+            };
+            relS = L .relS;
+            honest = L .honest;
+            inv = m-phase (termsOf c sm ss) (small-of c sm ss p) (liveM t none) tt (L .inv);
+          }
+      confirmed Refresh e h = absurd (false≢true h)
+      confirmed Terminate e h = absurd (false≢true h)
+
+      pub confirmed-m : Linked c sm ss (t + c .master) l (confirmedOf em t) es tm ts
+      confirmed-m = confirmed (em .state) refl (d .setup)
+
+    -- an S-Refresh of the slave
+    module _ (d : RefreshTaken em t (f .timestamp) body) (r : is (f .command) K.Refresh ≡ true) where
+      marked-who : at (marks l) k .who ≡ 2
+      marked-who = ap (λ (y : Mark). y .who) the-mark ∙ who-is true r
+
+      marked-code : at (marks l) k .code ≡ 255
+      marked-code = ap (λ (y : Mark). y .code) the-mark ∙ eqb-true (codeOf (f .command)) 255 r
+
+      marked-stamp : at (marks l) k .stamp ≡ f .timestamp
+      marked-stamp = ap (λ (y : Mark). y .stamp) the-mark
+
+      young : Young (minus (t % span) (at (marks l) k .stamp)) (sm .roundtrip) (sm .age)
+      young =
+          let a : ageOf em t (f .timestamp) ≡ minus (t % span) (at (marks l) k .stamp) =
+          ap (λ (y : ℕ). minus y (f .timestamp)) (time ∙ omega arith) ∙ ap (minus (t % span)) (sym marked-stamp) in
+          let w : allowanceOf (em .settings) ≡ sm .roundtrip = cond-false (em .settings .slave) 0 (em .settings .roundtrip) role ∙ ap (λ (y : Settings). y .roundtrip) (L .setM) in
+          let g : em .settings .age ≡ sm .age = ap (λ (y : Settings). y .age) (L .setM) in
+          young-of (ageOf em t (f .timestamp)) (allowanceOf (em .settings)) (em .settings .age) _ _ _ a w g (d .near) (d .young)
+
+      pub rises-m : tm ≤ k
+      rises-m =
+          let q = L .relM in
+          let a = above-top (em .timestamps .accepted) (f .timestamp) (d .above) in
+          let i = q .nextIn in
+          let s = marked-stamp in
+          let z = held-rises (termsOf c sm ss) (small-of c sm ss p) 2 (L .master .nextIn) (L .master .held) k (L .inv .log) (L .inv .master .held) in-log marked-who (omega arith) in
+          let h = q .held in
+          omega arith
+
+      pub refreshed-m : Linked c sm ss (t + c .master) l (refreshedOf em t (f .timestamp) (paddedOf body)) es (suc k) ts
+      refreshed-m =
+          let q = L .relM in
+          let a = above-top (em .timestamps .accepted) (f .timestamp) (d .above) in
+          let i = q .nextIn in
+          let s = marked-stamp in
+          let n = refresh-not-setup (em .state) (d .refresh) in
+          let b : at (marks l) k .body ≡ body = ap (λ (y : Mark). y .body) the-mark in
+          record {
+            master = record { nextOut = L .master .nextOut; nextIn = suc (at (marks l) k .stamp); held = suc k; phase = liveM t (some (at (marks l) k .body)) };
+            slave = L .slave;
+            setM = L .setM;
+            setS = L .setS;
+            relM = record {
+              nextOut = q .nextOut;
+              nextIn = ap suc (sym marked-stamp);
+              held = refl;
+              live = λ z. record { value = some body; phase = ap (λ (y : List ℕ). liveM t (some y)) b; holds = (refl, refl, d .width) };
+              pend = λ z y o. absurd (true≢false (sym z ∙ n));
+              ready = λ z y. absurd (true≢false (sym (pending-setup (em .state) z) ∙ n));
+            };
+            relS = L .relS;
+            honest = L .honest;
+            inv = m-takes (termsOf c sm ss) (small-of c sm ss p) t k refl (omega arith) in-log marked-who marked-code (omega arith) (young-more _ _ _ _ (omega arith) young) (L .inv);
+          }
+
+  -- ---- a show that is not fail-safe
+  module _ (x : isExpired em t ≡ false) (n : isFailSafe em ≡ false) where
+    held-at : (v : Option (List ℕ)) → Holds (em .settings) (em .value) v → (h : ℕ) → tm ≡ h → Held (marks l) 2 (L .master .nextIn) h
+        → ValueOf (marks l) h (em .since + c .master) (sm .age + sm .roundtrip + wobble) v
+        → ShownAt (marks l) 2 tm (t + c .master) (sm .age + (sm .interval + sm .roundtrip)) (shownOf em)
+    held-at none o h e q w = absurd (true≢false (sym (is-taken em n) ∙ o))
+    held-at (some b) o zero e q w = absurd w
+    held-at (some b) o (suc k) e q w =
+        let u = refresh-timer em t x (in-refresh em n) in
+        let i : em .settings .interval ≡ sm .interval = ap (λ (y : Settings). y .interval) (L .setM) in
+        let z = L .inv .log .stamped k (q .there) .past in
+        let y = w .young in
+        record {
+          place = k;
+          held = e;
+          there = q .there;
+          who = q .fits .who;
+          code = q .fits .code;
+          body = w .body ∙ sym (shown-is em b n o);
+          past = omega arith;
+          young = omega arith;
+        }
+
+    pub shown-m : ShownAt (marks l) 2 tm (t + c .master) (sm .age + (sm .interval + sm .roundtrip)) (shownOf em)
+    shown-m =
+        let v = L .relM .live (in-refresh em n) in
+        held-at (v .value) (v .holds) (L .master .held) (L .relM .held) (L .inv .master .held)
+        (subst (MPh (termsOf c sm ss) (marks l) (L .master .nextOut) (L .master .held)) (v .phase) (L .inv .master .phase))

@@ -1,0 +1,153 @@
+-- The log of entries and its marks: one more at the end; the last place of a frame.
+use mathlib.Core.Path.{_≡_, refl, sym, ap, ap₂, subst, _∙_}
+use mathlib.Core.Bool.{Bool, true, false, _&&_, cond, Bool·beq, true≢false, false≢true}
+use mathlib.Core.List.{List, [], _∷_, _++_, map}
+use Prim.Native.Nat.{ℕ, zero, suc, _+_, _≤_, _<_}
+use native.Mathlib.Nat.{not-suc-le-zero, le-of-suc-le-suc}
+use native.Mathlib.Numerals.{add-one}
+use native.Mathlib.Omega.{arith}
+use native.Mathlib.Decide.{decLt}
+use lib.Dec.{eqb}
+use lib.ListN.{length, getD, length-append, List·getD-append}
+use lib.Seq.{getD-append-seam}
+use borrow.Author.Tests.{eqb-true}
+use Rattle.frame.specs.declared.Command.{Command}
+use Rattle.frame.specs.declared.Session.{Session}
+use Rattle.frame.specs.declared.Session.the-variants.{Absent, Number}
+use Rattle.frame.specs.declared.Fields.{Fields}
+use Rattle.frame.specs.Control.{codeOf, commandOf, is, sessionBits}
+use Rattle.frame.specs.Reading.{same}
+use Rattle.frame.proofs.Alike.{and-left, and-right, same-eq}
+use Rattle.frame.proofs.Digits.{command-of-code}
+use Rattle.link.specs.Runs.{Entry, noEntry, entryAt, sameFields, lastFrom, lastOf}
+use Rattle.link.proofs.Marks.{Mark, size, at, snoc}
+use Rattle.link.proofs.Relation.{markOf, marks, Honest}
+
+-- ---- marks
+pub marks-snoc : (l : List Entry) (w : Entry) → marks (l ++ (w ∷ [])) ≡ snoc (marks l) (markOf w)
+unfolding marks snoc
+marks-snoc [] w = refl
+marks-snoc (x ∷ l) w = ap (λ (m : List Mark). markOf x ∷ m) (marks-snoc l w)
+
+pub size-marks : (l : List Entry) → size (marks l) ≡ length l
+unfolding marks size
+size-marks [] = refl
+size-marks (x ∷ l) = ap suc (size-marks l)
+
+pub at-marks : (l : List Entry) (i : ℕ) → i < length l → at (marks l) i ≡ markOf (entryAt l i)
+unfolding marks at entryAt
+at-marks [] i h = absurd (not-suc-le-zero h)
+at-marks (x ∷ l) zero h = refl
+at-marks (x ∷ l) (suc i) h = at-marks l i (le-of-suc-le-suc h)
+
+-- ---- one more entry
+pub longer : (l : List Entry) (w : Entry) → length (l ++ (w ∷ [])) ≡ suc (length l)
+longer l w = length-append l (w ∷ []) ∙ add-one (length l)
+
+pub entry-old : (l : List Entry) (w : Entry) (i : ℕ) → i < length l → entryAt (l ++ (w ∷ [])) i ≡ entryAt l i
+unfolding entryAt
+entry-old l w i h = List·getD-append l (w ∷ []) noEntry i h
+
+pub entry-new : (l : List Entry) (w : Entry) → entryAt (l ++ (w ∷ [])) (length l) ≡ w
+unfolding entryAt
+entry-new l w = getD-append-seam l w [] noEntry
+
+pub honest-snoc : (l : List Entry) (w : Entry) → ((i : ℕ) → i < length l → Honest (entryAt l i)) → Honest w
+    → (i : ℕ) → i < length (l ++ (w ∷ [])) → Honest (entryAt (l ++ (w ∷ [])) i)
+honest-snoc l w f h i k =
+    elim (decLt i (length l)) [
+      | yes g ↦ subst Honest (sym (entry-old l w i g)) (f i g)
+      | no g ↦ let e : i ≡ length l = omega (arith, longer l w) in subst Honest (sym (ap (entryAt (l ++ (w ∷ []))) e ∙ entry-new l w)) h
+    ]
+
+-- ---- equal fields
+beq-eq : (a b : Bool) → Bool·beq a b ≡ true → a ≡ b
+beq-eq true true h = refl
+beq-eq true false h = absurd (false≢true h)
+beq-eq false true h = absurd (false≢true h)
+beq-eq false false h = refl
+
+pub is-eq : (a b : Command) → is a b ≡ true → a ≡ b
+is-eq a b h = sym (command-of-code a) ∙ ap commandOf (eqb-true (codeOf a) (codeOf b) h) ∙ command-of-code b
+
+session-eq : (a b : Session) → eqb (sessionBits a) (sessionBits b) ≡ true → a ≡ b
+session-eq Absent Absent h = refl
+session-eq Absent (Number n) h = let z = eqb-true 0 (65536 + n) h in absurd (omega arith)
+session-eq (Number n) Absent h = let z = eqb-true (65536 + n) 0 h in absurd (omega arith)
+session-eq (Number n) (Number m) h = let z = eqb-true (65536 + n) (65536 + m) h in let y : n ≡ m = omega arith in ap Number y
+
+pub fields-eq : (f g : Fields) → sameFields f g ≡ true → f ≡ g
+unfolding sameFields
+fields-eq f g h =
+    let h1 = and-right (is (f .command) (g .command)) _ h in
+    let h2 = and-right (Bool·beq (f .ack) (g .ack)) _ h1 in
+    let h3 = and-right (Bool·beq (f .busy) (g .busy)) _ h2 in
+    let h4 = and-right (Bool·beq (f .error) (g .error)) _ h3 in
+    let h5 = and-right (Bool·beq (f .sequence) (g .sequence)) _ h4 in
+    let h6 = and-right (Bool·beq (f .application) (g .application)) _ h5 in
+    let h7 = and-right (eqb (sessionBits (f .session)) (sessionBits (g .session))) _ h6 in
+    let h8 = and-right (eqb (f .connection) (g .connection)) _ h7 in
+    let h9 = and-right (eqb (f .timestamp) (g .timestamp)) _ h8 in
+    let p0 = is-eq (f .command) (g .command) (and-left (is (f .command) (g .command)) _ h) in
+    let p1 = beq-eq (f .ack) (g .ack) (and-left (Bool·beq (f .ack) (g .ack)) _ h1) in
+    let p2 = beq-eq (f .busy) (g .busy) (and-left (Bool·beq (f .busy) (g .busy)) _ h2) in
+    let p3 = beq-eq (f .error) (g .error) (and-left (Bool·beq (f .error) (g .error)) _ h3) in
+    let p4 = beq-eq (f .sequence) (g .sequence) (and-left (Bool·beq (f .sequence) (g .sequence)) _ h4) in
+    let p5 = beq-eq (f .application) (g .application) (and-left (Bool·beq (f .application) (g .application)) _ h5) in
+    let p6 = session-eq (f .session) (g .session) (and-left (eqb (sessionBits (f .session)) (sessionBits (g .session))) _ h6) in
+    let p7 = eqb-true (f .connection) (g .connection) (and-left (eqb (f .connection) (g .connection)) _ h7) in
+    let p8 = eqb-true (f .timestamp) (g .timestamp) (and-left (eqb (f .timestamp) (g .timestamp)) _ h8) in
+    let p9 = eqb-true (f .baseline) (g .baseline) h9 in
+    λ i. record {
+      command = p0 i;
+      ack = p1 i;
+      busy = p2 i;
+      error = p3 i;
+      sequence = p4 i;
+      application = p5 i;
+      session = p6 i;
+      connection = p7 i;
+      timestamp = p8 i;
+      baseline = p9 i;
+    }
+
+-- ---- the last place of a frame that was written
+pub record FoundAt (f : Fields) (body : List ℕ) (l : List Entry) (k : ℕ) : Type 0 where
+  pub there : k < length l
+  pub fields : entryAt l k .fields ≡ f
+  pub bodies : entryAt l k .body ≡ body
+
+-- what is found in the rest of a log, from place n on, stands there, or is what was found before
+pub data Found (f : Fields) (body : List ℕ) (l : List Entry) (n found last : ℕ) : Type 0 where
+  before : last ≡ found → Found f body l n found last
+  here : (k : ℕ) → last ≡ suc (n + k) → FoundAt f body l k → Found f body l n found last
+
+further : (f : Fields) (body : List ℕ) (w : Entry) (l : List Entry) (n found last : ℕ) (b : Bool)
+    → (sameFields f (w .fields) && same body (w .body)) ≡ b → Found f body l (suc n) (cond b (suc n) found) last → Found f body (w ∷ l) n found last
+unfolding entryAt
+further f body w l n found last b h (here k e p) = here (suc k) (omega arith) (record { there = le-suc (p .there); fields = p .fields; bodies = p .bodies })
+  where
+    le-suc : {i j : ℕ} → i < j → suc i < suc j
+    le-suc {i} {j} g = omega arith
+further f body w l n found last true h (before e) =
+    here 0 (omega arith) (record {
+      there = omega arith;
+      fields = sym (fields-eq f (w .fields) (and-left (sameFields f (w .fields)) (same body (w .body)) h));
+      bodies = sym (same-eq body (w .body) (and-right (sameFields f (w .fields)) (same body (w .body)) h));
+    })
+further f body w l n found last false h (before e) = before e
+
+found-from : (f : Fields) (body : List ℕ) (l : List Entry) (n found : ℕ) → Found f body l n found (lastFrom n f body l found)
+unfolding lastFrom
+found-from f body [] n found = before refl
+found-from f body (w ∷ l) n found =
+    further f body w l n found _ (sameFields f (w .fields) && same body (w .body)) refl
+    (found-from f body l (suc n) (cond (sameFields f (w .fields) && same body (w .body)) (suc n) found))
+
+pub found-at : (f : Fields) (body : List ℕ) (l : List Entry) (k : ℕ) → lastOf f body l ≡ suc k → FoundAt f body l k
+unfolding lastOf
+found-at f body l k e = go (found-from f body l 0 0)
+  where
+    go : Found f body l 0 0 (lastFrom 0 f body l 0) → FoundAt f body l k
+    go (before z) = absurd (omega arith)
+    go (here j z p) = let q : j ≡ k = omega arith in subst (FoundAt f body l) q p
