@@ -133,7 +133,7 @@ module _ (c : Clocks) (sm ss : Settings) (p : Paired sm ss) {l : List Entry} {em
     go-asked h =
         let k = go-due (em .state) h in
         let g = L .relM .ready k (d .idle) in
-        let b = go-baseline (em .state) t (em .setup .measured) k in
+        let b = go-baseline t (em .setup .measured) (em .state) k in
         let u = setup-timer em t x (d .setup) in
         let r : em .settings .roundtrip ≤ 65535 = subst (λ (s : Settings). s .roundtrip ≤ 65535) (sym (L .setM)) (p .ticksM .roundtrip) in
         let i = g .since in

@@ -9,68 +9,75 @@ use Rattle.frame.specs.declared.Command.the-variants as K
 use Rattle.frame.specs.Control.{codeOf, is}
 use Rattle.endpoint.specs.declared.State.{State}
 use Rattle.endpoint.specs.declared.State.the-variants.{Close, Starting, EstablishPending, Establish, ParamVerify, RefreshPending, Refresh, Terminate}
-use Rattle.endpoint.specs.Table.{isState, isSetup, requestOf}
+use Rattle.endpoint.specs.declared.Next.the-variants.{To, No}
+use Rattle.endpoint.specs.Table.{isState, isSetup, isNo, nextOf, requestOf}
 use Rattle.steps.specs.Frames.{baselineOf}
+
+-- by cases on the state
+each : (P : State → Type 0) → P Close → P Starting → P EstablishPending → P Establish → P ParamVerify → P RefreshPending → P Refresh → P Terminate
+    → (s : State) → P s
+each P a b c d e f g h Close = a
+each P a b c d e f g h Starting = b
+each P a b c d e f g h EstablishPending = c
+each P a b c d e f g h Establish = d
+each P a b c d e f g h ParamVerify = e
+each P a b c d e f g h RefreshPending = f
+each P a b c d e f g h Refresh = g
+each P a b c d e f g h Terminate = h
+
+no : {A : Type 0} → true ≡ false → A
+no h = absurd (true≢false h)
+
+off : {A : Type 0} → false ≡ true → A
+off h = absurd (false≢true h)
 
 -- S-RefreshGO is due in RefreshPending alone
 pub go-due : (s : State) → codeOf (requestOf s) ≡ 254 → isState s RefreshPending ≡ true
-go-due Close h = absurd (omega arith)
-go-due Starting h = absurd (omega arith)
-go-due EstablishPending h = absurd (omega arith)
-go-due Establish h = absurd (omega arith)
-go-due ParamVerify h = absurd (omega arith)
-go-due RefreshPending h = refl
-go-due Refresh h = absurd (omega arith)
-go-due Terminate h = absurd (omega arith)
+go-due =
+    each (λ s. codeOf (requestOf s) ≡ 254 → isState s RefreshPending ≡ true)
+    (λ h. absurd (omega arith)) (λ h. absurd (omega arith)) (λ h. absurd (omega arith)) (λ h. absurd (omega arith)) (λ h. absurd (omega arith))
+    (λ h. refl) (λ h. absurd (omega arith)) (λ h. absurd (omega arith))
 
-pub go-baseline : (s : State) (t m : ℕ) → isState s RefreshPending ≡ true → baselineOf (requestOf s) t m ≡ (t - m) % 65536
-go-baseline Close t m h = absurd (false≢true h)
-go-baseline Starting t m h = absurd (false≢true h)
-go-baseline EstablishPending t m h = absurd (false≢true h)
-go-baseline Establish t m h = absurd (false≢true h)
-go-baseline ParamVerify t m h = absurd (false≢true h)
-go-baseline RefreshPending t m h = refl
-go-baseline Refresh t m h = absurd (false≢true h)
-go-baseline Terminate t m h = absurd (false≢true h)
+pub go-baseline : (t m : ℕ) (s : State) → isState s RefreshPending ≡ true → baselineOf (requestOf s) t m ≡ (t - m) % 65536
+go-baseline t m =
+    each (λ s. isState s RefreshPending ≡ true → baselineOf (requestOf s) t m ≡ (t - m) % 65536) off off off off off (λ h. refl) off off
 
 -- no request is S-Refresh
 pub request-not-refresh : (s : State) → is (requestOf s) K.Refresh ≡ false
-request-not-refresh Close = refl
-request-not-refresh Starting = refl
-request-not-refresh EstablishPending = refl
-request-not-refresh Establish = refl
-request-not-refresh ParamVerify = refl
-request-not-refresh RefreshPending = refl
-request-not-refresh Refresh = refl
-request-not-refresh Terminate = refl
+request-not-refresh = each (λ s. is (requestOf s) K.Refresh ≡ false) refl refl refl refl refl refl refl refl
 
 -- Refresh is no setup state, and RefreshPending is one
 pub setup-not-refresh : (s : State) → isSetup s ≡ true → isState s Refresh ≡ false
-setup-not-refresh Close h = refl
-setup-not-refresh Starting h = refl
-setup-not-refresh EstablishPending h = refl
-setup-not-refresh Establish h = refl
-setup-not-refresh ParamVerify h = refl
-setup-not-refresh RefreshPending h = refl
-setup-not-refresh Refresh h = absurd (false≢true h)
-setup-not-refresh Terminate h = refl
+setup-not-refresh = each (λ s. isSetup s ≡ true → isState s Refresh ≡ false) (λ h. refl) (λ h. refl) (λ h. refl) (λ h. refl) (λ h. refl) (λ h. refl) off (λ h. refl)
 
 pub refresh-not-setup : (s : State) → isState s Refresh ≡ true → isSetup s ≡ false
-refresh-not-setup Close h = refl
-refresh-not-setup Starting h = absurd (false≢true h)
-refresh-not-setup EstablishPending h = absurd (false≢true h)
-refresh-not-setup Establish h = absurd (false≢true h)
-refresh-not-setup ParamVerify h = absurd (false≢true h)
-refresh-not-setup RefreshPending h = absurd (false≢true h)
-refresh-not-setup Refresh h = refl
-refresh-not-setup Terminate h = refl
+refresh-not-setup = each (λ s. isState s Refresh ≡ true → isSetup s ≡ false) off off off off off off (λ h. refl) off
 
 pub pending-setup : (s : State) → isState s RefreshPending ≡ true → isSetup s ≡ true
-pending-setup Close h = absurd (false≢true h)
-pending-setup Starting h = refl
-pending-setup EstablishPending h = refl
-pending-setup Establish h = refl
-pending-setup ParamVerify h = refl
-pending-setup RefreshPending h = refl
-pending-setup Refresh h = absurd (false≢true h)
-pending-setup Terminate h = absurd (false≢true h)
+pending-setup = each (λ s. isState s RefreshPending ≡ true → isSetup s ≡ true) off off off off off (λ h. refl) off off
+
+-- the one state that each command leads to
+abbrev pub targetOf : Command → State
+targetOf K.Connect = EstablishPending
+targetOf K.ConfirmNetwork = Establish
+targetOf K.VerifyStation = ParamVerify
+targetOf K.RefreshReady = RefreshPending
+targetOf K.RefreshGo = Refresh
+targetOf K.Refresh = Refresh
+targetOf K.Disconnect = Terminate
+
+abbrev Leads : Command → State → Type 0
+Leads k s = isNo (nextOf k s) ≡ false → nextOf k s ≡ To (targetOf k)
+
+pub leads : (k : Command) (s : State) → isNo (nextOf k s) ≡ false → nextOf k s ≡ To (targetOf k)
+leads K.Connect = each (Leads K.Connect) (λ h. refl) (λ h. refl) (λ h. refl) no no no no no
+leads K.ConfirmNetwork = each (Leads K.ConfirmNetwork) no no (λ h. refl) no no no no no
+leads K.VerifyStation = each (Leads K.VerifyStation) no no no (λ h. refl) no no no no
+leads K.RefreshReady = each (Leads K.RefreshReady) no no no no (λ h. refl) no no no
+leads K.RefreshGo = each (Leads K.RefreshGo) no no no no no (λ h. refl) no no
+leads K.Refresh = each (Leads K.Refresh) no no no no no no (λ h. refl) no
+leads K.Disconnect = each (Leads K.Disconnect) no (λ h. refl) (λ h. refl) (λ h. refl) (λ h. refl) (λ h. refl) (λ h. refl) no
+
+-- S-RefreshGO is taken in RefreshPending alone
+pub go-from : (s : State) → isNo (nextOf K.RefreshGo s) ≡ false → isState s RefreshPending ≡ true
+go-from = each (λ s. isNo (nextOf K.RefreshGo s) ≡ false → isState s RefreshPending ≡ true) no no no no no (λ h. refl) no no

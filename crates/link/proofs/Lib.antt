@@ -8,3 +8,4 @@ pub mod Entries
 pub mod Codes
 pub mod Shown
 pub mod AtMaster
+pub mod AtSlave
