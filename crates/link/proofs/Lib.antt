@@ -9,3 +9,5 @@ pub mod Codes
 pub mod Shown
 pub mod AtMaster
 pub mod AtSlave
+pub mod Events
+pub mod Ends

@@ -1,0 +1,166 @@
+-- Any call at the master, and any at the slave, keeps the relation to the invariant; what an end took never falls.
+use mathlib.Core.Path.{_≡_, refl, sym, ap, subst, _∙_}
+use mathlib.Core.Bool.{Bool, true, false, _&&_, _||_, not, cond, Bool·beq, true≢false, false≢true}
+use mathlib.Core.List.{List, [], _∷_, _++_, append-nil}
+use mathlib.Core.Logic.{_⊎_, inl, inr, ⊎-elim}
+use Prim.Native.Nat.{ℕ, zero, suc, _+_, _≤_, _<_}
+use lib.ListN.{length}
+use borrow.Author.Tests.{not-false}
+use Rattle.frame.specs.declared.Command.the-variants as K
+use Rattle.frame.specs.declared.Fields.{Fields}
+use Rattle.frame.specs.Control.{is}
+use Rattle.endpoint.specs.declared.Settings.{Settings}
+use Rattle.endpoint.specs.declared.Endpoint.{Endpoint}
+use Rattle.endpoint.specs.declared.Reason.the-variants as R
+use Rattle.endpoint.specs.declared.Answer.{Answer}
+use Rattle.endpoint.specs.declared.Answer.the-variants.{Done, Dropped, Ended}
+use Rattle.endpoint.specs.Answers.{firstOf, isDropped, isEnded}
+use Rattle.endpoint.specs.Time.{isExpired, isAbove, endedOf}
+use Rattle.steps.specs.Frames.{Written, nothing, written}
+use Rattle.steps.specs.Calls.{Outcome, outcome, sendOf, stopOf, stoppedOf}
+use Rattle.steps.specs.Deliveries.{requestFaults, replyFaults, takeRequest, takeReply, deliverOf, endedBy}
+use Rattle.steps.specs.Laws.{RefreshSent, RequestSent}
+use Rattle.steps.proofs.Dispatch.{cond-true, cond-false, deliver-request, deliver-reply}
+use Rattle.steps.proofs.Dones.{send-done, stop-done, refresh-done, request-done, disconnect-done, reply-done}
+use Rattle.steps.proofs.Firsts.{not-dropped}
+use Rattle.steps.proofs.Keeps.{bcase}
+use Rattle.link.specs.Runs.{Clocks, clockLimit, Call, start, send, deliver, stop, restart, show, Entry, logged, mayDeliver, tookBy, callOf, actOf}
+use Rattle.link.specs.Fresh.{Paired}
+use Rattle.link.proofs.Relation.{Linked}
+use Rattle.link.proofs.Entries.{FoundAt}
+use Rattle.link.proofs.Events.{Keeps, Kept, expired, acted}
+use Rattle.link.proofs.AtMaster as M
+use Rattle.link.proofs.AtSlave as S
+
+-- a frame that is not one's own has the other's Application bit
+other-bit : (a b : Bool) → Bool·beq a b ≡ false → a ≡ not b
+other-bit true true h = absurd (true≢false h)
+other-bit true false h = refl
+other-bit false true h = refl
+other-bit false false h = absurd (true≢false h)
+
+module _ (c : Clocks) (sm ss : Settings) (p : Paired sm ss) {l : List Entry} {em es : Endpoint} {tm ts : ℕ} (t : ℕ) (lim : t ≤ clockLimit) where
+  -- ---- the master
+  module _ (L : Linked c sm ss (t + c .master) l em es tm ts) where
+    role : em .settings .slave ≡ false
+    role = ap (λ (s : Settings). s .slave) (L .setM) ∙ p .master
+
+    abbrev AtM : List Entry → Endpoint → ℕ → Type 0
+    AtM x e n = Linked c sm ss (t + c .master) x e es n ts
+
+    abbrev KeepsM : Call → Outcome → Type 0
+    KeepsM call o = AtM (l ++ logged false (t + c .master) call (o .writes)) (o .endpoint) tm
+
+    silent-m : (call : Call) (a : Answer) (x : Endpoint) → AtM l x tm → KeepsM call (outcome a x nothing)
+    silent-m call a x k = subst (λ (y : List Entry). AtM y x tm) (sym (append-nil l)) k
+
+    sent-m : (value : List ℕ) → isExpired em t ≡ false → sendOf em t value .answer ≡ Done → KeepsM (send value) (sendOf em t value)
+    sent-m value x h =
+        ⊎-elim (λ (d : RefreshSent em t value). subst (KeepsM (send value)) (sym (d .comes)) (M.refresh-sent-m c sm ss p t lim L value d))
+        (λ (d : RequestSent em t value). subst (KeepsM (send value)) (sym (d .comes)) (M.requested-m c sm ss p t lim L value d x))
+        (send-done em t value h)
+
+    stopped-m : stopOf em t .answer ≡ Done → KeepsM stop (stopOf em t)
+    stopped-m h =
+        let d = stop-done em t h in
+        subst (KeepsM stop) (sym (d .comes ∙ ap (outcome Done (stoppedOf em t)) (cond-false (em .settings .slave) _ _ role)))
+        (M.stopped-m c sm ss p t lim L d)
+
+    other-m : (f : Fields) (body : List ℕ) (k : ℕ) → isExpired em t ≡ false → FoundAt f body l k → Bool·beq (f .application) (em .settings .slave) ≡ false
+        → is (f .command) K.Refresh ≡ false → KeepsM (deliver f body) (deliverOf em t f body)
+    other-m f body k x g h n = subst (KeepsM (deliver f body)) (sym (deliver-reply em t f body h n role)) (go (firstOf (replyFaults em f body)) refl)
+      where
+        go : (a : Answer) → firstOf (replyFaults em f body) ≡ a → KeepsM (deliver f body) (takeReply em t f body)
+        go Done e =
+            let d = reply-done em t f body e in
+            subst (KeepsM (deliver f body)) (sym (d .comes))
+            (silent-m (deliver f body) Done _ (M.confirmed-m c sm ss p t lim L f body k g (other-bit (f .application) (em .settings .slave) h ∙ ap not role) d x))
+        go (Dropped r) e = rw e (silent-m (deliver f body) (Dropped r) em L)
+        go (Ended r) e = rw e (silent-m (deliver f body) (Ended r) (endedOf em) (M.ended-m c sm ss p t lim L))
+
+    pub at-master : (call : Call) → mayDeliver l call ≡ true
+        → Linked c sm ss (t + c .master) (l ++ logged false (t + c .master) call (callOf em t call .writes)) (callOf em t call .endpoint) es
+        (tookBy l call (callOf em t call .answer) tm) ts
+        × (tm ≤ tookBy l call (callOf em t call .answer) tm)
+    unfolding Keeps Kept
+    at-master call h =
+        bcase (isExpired em t)
+        (λ x. rw x (expired false (t + c .master) t l em tm AtM L (M.ended-m c sm ss p t lim L) (λ q. M.started-m c sm ss p t lim L) (M.restarted-m c sm ss p t lim L) call))
+        (λ x. rw x (acted false (t + c .master) t l em tm AtM L (M.ended-m c sm ss p t lim L) (λ q. M.started-m c sm ss p t lim L) (M.restarted-m c sm ss p t lim L)
+        (λ value d. sent-m value x d) stopped-m
+        (λ f body k g q r d.
+        let o = other-bit (f .application) (em .settings .slave) q ∙ ap not role in
+        let y = refresh-done em t (f .timestamp) body d in
+        (M.refreshed-m c sm ss p t lim L f body k g o y r, M.rises-m c sm ss p t lim L f body k g o y r))
+        (λ f body k g q n. other-m f body k x g q n) call h))
+
+  -- ---- the slave
+  module _ (L : Linked c sm ss (t + c .slave) l em es tm ts) where
+    slave-role : es .settings .slave ≡ true
+    slave-role = ap (λ (s : Settings). s .slave) (L .setS) ∙ p .slave
+
+    abbrev AtS : List Entry → Endpoint → ℕ → Type 0
+    AtS x e n = Linked c sm ss (t + c .slave) x em e tm n
+
+    abbrev KeepsS : Call → Outcome → Type 0
+    KeepsS call o = AtS (l ++ logged true (t + c .slave) call (o .writes)) (o .endpoint) ts
+
+    silent-s : (call : Call) (a : Answer) (x : Endpoint) → AtS l x ts → KeepsS call (outcome a x nothing)
+    silent-s call a x k = subst (λ (y : List Entry). AtS y x ts) (sym (append-nil l)) k
+
+    sent-s : (value : List ℕ) → sendOf es t value .answer ≡ Done → KeepsS (send value) (sendOf es t value)
+    sent-s value h =
+        ⊎-elim (λ (d : RefreshSent es t value). subst (KeepsS (send value)) (sym (d .comes)) (S.refresh-sent-s c sm ss p t lim L value d))
+        (λ (d : RequestSent es t value). absurd (true≢false (sym slave-role ∙ d .master)))
+        (send-done es t value h)
+
+    stopped-s : stopOf es t .answer ≡ Done → KeepsS stop (stopOf es t)
+    stopped-s h =
+        let d = stop-done es t h in
+        subst (KeepsS stop) (sym (d .comes ∙ ap (outcome Done (stoppedOf es t)) (cond-true (es .settings .slave) _ _ slave-role)))
+        (silent-s stop Done (stoppedOf es t) (S.stopped-s c sm ss p t lim L))
+
+    -- a request that was not dropped has a timestamp above the last accepted
+    above-s : (f : Fields) (body : List ℕ) → isDropped (firstOf (requestFaults es f body)) ≡ false
+        → isAbove (es .timestamps .accepted) (f .timestamp) ≡ true
+    above-s f body h = not-false (isAbove (es .timestamps .accepted) (f .timestamp)) (not-dropped (requestFaults es f body) h .repeat)
+
+    other-s : (f : Fields) (body : List ℕ) (k : ℕ) → isExpired es t ≡ false → FoundAt f body l k → Bool·beq (f .application) (es .settings .slave) ≡ false
+        → is (f .command) K.Refresh ≡ false → KeepsS (deliver f body) (deliverOf es t f body)
+    other-s f body k x g h n =
+        subst (KeepsS (deliver f body)) (sym (deliver-request es t f body h n slave-role))
+        (bcase (is (f .command) K.Disconnect) (leaves (firstOf (requestFaults es f body)) refl) (replies (firstOf (requestFaults es f body)) refl))
+      where
+        masters : f .application ≡ false
+        masters = other-bit (f .application) (es .settings .slave) h ∙ ap not slave-role
+
+        ends : (a : Answer) → firstOf (requestFaults es f body) ≡ a → isDropped a ≡ false → isAbove (es .timestamps .accepted) (f .timestamp) ≡ true
+        ends a e q = above-s f body (ap isDropped e ∙ q)
+
+        leaves : (a : Answer) → firstOf (requestFaults es f body) ≡ a → is (f .command) K.Disconnect ≡ true → KeepsS (deliver f body) (takeRequest es t f body)
+        leaves Done e q = rw (e, q) (silent-s (deliver f body) Done (endedBy es (f .timestamp)) (S.heard-s c sm ss p t lim L f body k g masters (ends Done e refl)))
+        leaves (Dropped r) e q = rw e (silent-s (deliver f body) (Dropped r) es L)
+        leaves (Ended r) e q = rw (e, q) (silent-s (deliver f body) (Ended r) (endedBy es (f .timestamp)) (S.heard-s c sm ss p t lim L f body k g masters (ends (Ended r) e refl)))
+
+        replies : (a : Answer) → firstOf (requestFaults es f body) ≡ a → is (f .command) K.Disconnect ≡ false → KeepsS (deliver f body) (takeRequest es t f body)
+        replies Done e q =
+            let d = request-done es t f body q e in
+            subst (KeepsS (deliver f body)) (sym (d .comes)) (S.advanced-s c sm ss p t lim L f body k g masters (d .above) d x n q)
+        replies (Dropped r) e q = rw e (silent-s (deliver f body) (Dropped r) es L)
+        replies (Ended r) e q = rw (e, q) (S.unequal-s c sm ss p t lim L f body k g masters (ends (Ended r) e refl) true n)
+
+    pub at-slave : (call : Call) → mayDeliver l call ≡ true
+        → Linked c sm ss (t + c .slave) (l ++ logged true (t + c .slave) call (callOf es t call .writes)) em (callOf es t call .endpoint) tm
+        (tookBy l call (callOf es t call .answer) ts)
+        × (ts ≤ tookBy l call (callOf es t call .answer) ts)
+    unfolding Keeps Kept
+    at-slave call h =
+        bcase (isExpired es t)
+        (λ x. rw x (expired true (t + c .slave) t l es ts AtS L (S.ended-s c sm ss p t lim L) (λ q. absurd (true≢false (sym slave-role ∙ q))) (S.restarted-s c sm ss p t lim L) call))
+        (λ x. rw x (acted true (t + c .slave) t l es ts AtS L (S.ended-s c sm ss p t lim L) (λ q. absurd (true≢false (sym slave-role ∙ q))) (S.restarted-s c sm ss p t lim L)
+        (λ value d. sent-s value d) stopped-s
+        (λ f body k g q r d.
+        let o = other-bit (f .application) (es .settings .slave) q ∙ ap not slave-role in
+        let y = refresh-done es t (f .timestamp) body d in
+        (S.refreshed-s c sm ss p t lim L f body k g o y x r, S.rises-s c sm ss p t lim L f body k g o y x r))
+        (λ f body k g q n. other-s f body k x g q n) call h))
