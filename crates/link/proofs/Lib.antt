@@ -11,3 +11,5 @@ pub mod AtMaster
 pub mod AtSlave
 pub mod Events
 pub mod Ends
+pub mod Sends
+pub mod AgeProof

@@ -1,0 +1,154 @@
+-- The shows of a run and their sends: stable while the log grows, and one more show.
+use mathlib.Core.Path.{_≡_, refl, sym, ap, subst, _∙_}
+use mathlib.Core.Bool.{Bool, true, false, not, cond, true≢false, false≢true}
+use mathlib.Core.List.{List, [], _∷_, _++_}
+use Prim.Native.Nat.{ℕ, zero, suc, _+_, _≤_, _<_}
+use native.Mathlib.Numerals.{add-one}
+use native.Mathlib.Omega.{arith}
+use native.Mathlib.Decide.{decLt}
+use lib.Dec.{eqb}
+use lib.ListN.{length, getD, length-append, List·getD-append}
+use lib.Seq.{getD-append-seam}
+use borrow.Author.Tests.{eq-eqb}
+use Rattle.frame.specs.declared.Command.the-variants as K
+use Rattle.frame.specs.declared.Fields.{Fields}
+use Rattle.frame.specs.Control.{is, codeOf}
+use Rattle.endpoint.specs.declared.Settings.{Settings}
+use Rattle.link.specs.Runs.{Entry, noEntry, entryAt, Show, noShow, showAt}
+use Rattle.link.specs.Fresh.{boundOf, ItsSend}
+use Rattle.link.proofs.Marks.{Mark, size, at}
+use Rattle.link.proofs.Relation.{whoOf, markOf, marks, Honest}
+use Rattle.link.proofs.Entries.{size-marks, at-marks}
+use Rattle.link.proofs.Shown.{ShownAt}
+
+pub record Sent (sm ss : Settings) (log : List Entry) (x : Show) : Type 0 where
+  pub place : ℕ
+  pub sent : x .sent ≡ suc place
+  pub there : place < length log
+  pub fits : ItsSend (boundOf (cond (x .slave) ss sm)) x (entryAt log place)
+
+pub record ShowsInv (sm ss : Settings) (log : List Entry) (tm ts : ℕ) (shows : List Show) : Type 0 where
+  pub its : (i : ℕ) → i < length shows → Sent sm ss log (showAt shows i)
+  pub below : (i : ℕ) → i < length shows → showAt shows i .sent ≤ cond (showAt shows i .slave) ts tm
+  pub order : (i j : ℕ) → i < j → j < length shows → showAt shows i .slave ≡ showAt shows j .slave → showAt shows i .sent ≤ showAt shows j .sent
+
+entry-kept : (log ext : List Entry) (i : ℕ) → i < length log → entryAt (log ++ ext) i ≡ entryAt log i
+unfolding entryAt
+entry-kept log ext i h = List·getD-append log ext noEntry i h
+
+cond-le : (b : Bool) (ts ts′ tm tm′ : ℕ) → ts ≤ ts′ → tm ≤ tm′ → cond b ts tm ≤ cond b ts′ tm′
+cond-le true ts ts′ tm tm′ h k = h
+cond-le false ts ts′ tm tm′ h k = k
+
+module _ (sm ss : Settings) where
+  -- the log grows, and what was taken rises
+  pub grow : (log ext : List Entry) (tm ts tm′ ts′ : ℕ) (shows : List Show) → tm ≤ tm′ → ts ≤ ts′
+      → ShowsInv sm ss log tm ts shows → ShowsInv sm ss (log ++ ext) tm′ ts′ shows
+  grow log ext tm ts tm′ ts′ shows h k v = record {
+    its = λ i j.
+        let s = v .its i j in
+        let n = s .there in
+        let e = length-append log ext in
+        record {
+          place = s .place;
+          sent = s .sent;
+          there = omega arith;
+          fits = subst (ItsSend (boundOf (cond (showAt shows i .slave) ss sm)) (showAt shows i)) (sym (entry-kept log ext (s .place) n)) (s .fits);
+        };
+    below = λ i j. let a = v .below i j in let b = cond-le (showAt shows i .slave) ts ts′ tm tm′ k h in omega arith;
+    order = v .order;
+  }
+
+  -- ---- one show more
+  module _ (log : List Entry) (tm ts : ℕ) (shows : List Show) (x : Show) where
+    longer : length (shows ++ (x ∷ [])) ≡ suc (length shows)
+    longer = length-append shows (x ∷ []) ∙ add-one (length shows)
+
+    show-old : (i : ℕ) → i < length shows → showAt (shows ++ (x ∷ [])) i ≡ showAt shows i
+    unfolding showAt
+    show-old i h = List·getD-append shows (x ∷ []) noShow i h
+
+    show-new : showAt (shows ++ (x ∷ [])) (length shows) ≡ x
+    unfolding showAt
+    show-new = getD-append-seam shows x [] noShow
+
+    each-show : (P : Show → Type 0) → ((i : ℕ) → i < length shows → P (showAt shows i)) → P x → (i : ℕ) → i < length (shows ++ (x ∷ []))
+        → P (showAt (shows ++ (x ∷ [])) i)
+    each-show P f p i h =
+        elim (decLt i (length shows)) [
+          | yes g ↦ subst P (sym (show-old i g)) (f i g)
+          | no g ↦ let e : i ≡ length shows = omega (arith, longer) in subst P (sym (ap (showAt (shows ++ (x ∷ []))) e ∙ show-new)) p
+        ]
+
+    pub add : Sent sm ss log x → x .sent ≡ cond (x .slave) ts tm → ShowsInv sm ss log tm ts shows → ShowsInv sm ss log tm ts (shows ++ (x ∷ []))
+    add s e v = record {
+      its = each-show (Sent sm ss log) (v .its) s;
+      below = each-show (λ (y : Show). y .sent ≤ cond (y .slave) ts tm) (v .below) (omega arith);
+      order = λ i j h k q. ordered i j h k q;
+    }
+      where
+        last : (i : ℕ) → i < length shows → showAt shows i .slave ≡ x .slave → showAt shows i .sent ≤ x .sent
+        last i h q = let b = subst (λ (y : Bool). showAt shows i .sent ≤ cond y ts tm) q (v .below i h) in omega arith
+
+        ordered : (i j : ℕ) → i < j → j < length (shows ++ (x ∷ [])) → showAt (shows ++ (x ∷ [])) i .slave ≡ showAt (shows ++ (x ∷ [])) j .slave
+            → showAt (shows ++ (x ∷ [])) i .sent ≤ showAt (shows ++ (x ∷ [])) j .sent
+        ordered i j h k q =
+            elim (decLt j (length shows)) [
+              | yes g ↦
+                  let a = show-old i (omega arith) in
+                  let b = show-old j g in
+                  let o = v .order i j h g (sym (ap (λ (y : Show). y .slave) a) ∙ q ∙ ap (λ (y : Show). y .slave) b) in
+                  let a′ = ap (λ (y : Show). y .sent) a in
+                  let b′ = ap (λ (y : Show). y .sent) b in
+                  omega arith
+              | no g ↦
+                  let z : j ≡ length shows = omega (arith, longer) in
+                  let n : i < length shows = omega arith in
+                  let a = show-old i n in
+                  let b = ap (showAt (shows ++ (x ∷ []))) z ∙ show-new in
+                  let o = last i n (sym (ap (λ (y : Show). y .slave) a) ∙ q ∙ ap (λ (y : Show). y .slave) b) in
+                  let a′ = ap (λ (y : Show). y .sent) a in
+                  let b′ = ap (λ (y : Show). y .sent) b in
+                  omega arith
+            ]
+
+-- ---- what is shown was sent by the other end
+kind-master : (a b : Bool) → _≡_ {A = ℕ} (cond a (cond b 2 1) 0) 2 → a ≡ true
+kind-master true b h = refl
+kind-master false b h = absurd (omega arith)
+
+kind-slave : (a b : Bool) → _≡_ {A = ℕ} (cond a (cond b 2 1) 0) 0 → a ≡ false
+kind-slave true true h = absurd (omega arith)
+kind-slave true false h = absurd (omega arith)
+kind-slave false b h = refl
+
+pub writer-of : (slave : Bool) (f : Fields) → whoOf f ≡ cond slave 0 2 → f .application ≡ not slave
+writer-of true f h = kind-slave (f .application) (is (f .command) K.Refresh) h
+writer-of false f h = kind-master (f .application) (is (f .command) K.Refresh) h
+
+pub sent-by : (sm ss : Settings) (log : List Entry) (slave : Bool) (took m : ℕ) (bytes : List ℕ) → ((i : ℕ) → i < length log → Honest (entryAt log i))
+    → ShownAt (marks log) (cond slave 0 2) took m (boundOf (cond slave ss sm)) bytes
+    → Sent sm ss log (record { slave = slave; moment = m; bytes = bytes; sent = took })
+sent-by sm ss log slave took m bytes honest s =
+    let k = s .place in
+    let n : k < length log = let z = s .there in let y = size-marks log in omega arith in
+    let q = at-marks log k n in
+    let h = honest k n in
+    let w : whoOf (entryAt log k .fields) ≡ cond slave 0 2 = sym (ap (λ (y : Mark). y .who) q) ∙ s .who in
+    let r : is (entryAt log k .fields .command) K.Refresh ≡ true =
+    eq-eqb (codeOf (entryAt log k .fields .command)) 255 (sym (ap (λ (y : Mark). y .code) q) ∙ s .code) in
+    let o : at (marks log) k .moment ≡ entryAt log k .moment = ap (λ (y : Mark). y .moment) q in
+    let a = s .past in
+    let b = s .young in
+    record {
+      place = k;
+      sent = s .held;
+      there = n;
+      fits = record {
+        other = sym (h .writer) ∙ writer-of slave (entryAt log k .fields) w;
+        refresh = r;
+        value = h .value r ∙ sym (ap (λ (y : Mark). y .body) q) ∙ s .body;
+        before = omega arith;
+        young = omega arith;
+      };
+    }
