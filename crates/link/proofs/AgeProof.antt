@@ -62,32 +62,32 @@ module _ (c : Clocks) (sm ss : Settings) (p : Paired sm ss) where
   -- a show at the master, and at the slave
   shows-m : (log : List Entry) (em es : Endpoint) (tm ts t : ℕ) (shows : List Show) → t ≤ clockLimit → Linked c sm ss (t + c .master) log em es tm ts
       → ShowsInv sm ss log tm ts shows
-      → ShowsInv sm ss log tm ts (shows ++ shownBy false (t + c .master) tm show (callOf em t show .endpoint))
+      → ShowsInv sm ss log tm ts (shows ++ shownBy false (t + c .master) tm (length log) show (callOf em t show .endpoint))
   shows-m log em es tm ts t shows lim L v =
       bcase (isExpired em t) (λ x. rw x (quiet log tm ts shows v))
       (λ x. rw x (bcase (isFailSafe em) (λ f. rw f (quiet log tm ts shows v))
       (λ f. subst (λ (y : List Show). ShowsInv sm ss log tm ts (shows ++ y))
-      (sym (cond-false (isFailSafe em) [] (record { slave = false; moment = t + c .master; bytes = shownOf em; sent = tm } ∷ []) f))
-      (add sm ss log tm ts shows (record { slave = false; moment = t + c .master; bytes = shownOf em; sent = tm })
+      (sym (cond-false (isFailSafe em) [] (record { slave = false; moment = t + c .master; bytes = shownOf em; sent = tm; written = length log } ∷ []) f))
+      (add sm ss log tm ts shows (record { slave = false; moment = t + c .master; bytes = shownOf em; sent = tm; written = length log })
       (sent-by sm ss log false tm (t + c .master) (shownOf em) (L .honest)
       (subst (λ (b : ℕ). ShownAt (marks log) 2 tm (t + c .master) b (shownOf em)) bound-m (shown-m c sm ss p t lim L x f))) refl v))))
 
   shows-s : (log : List Entry) (em es : Endpoint) (tm ts t : ℕ) (shows : List Show) → t ≤ clockLimit → Linked c sm ss (t + c .slave) log em es tm ts
       → ShowsInv sm ss log tm ts shows
-      → ShowsInv sm ss log tm ts (shows ++ shownBy true (t + c .slave) ts show (callOf es t show .endpoint))
+      → ShowsInv sm ss log tm ts (shows ++ shownBy true (t + c .slave) ts (length log) show (callOf es t show .endpoint))
   shows-s log em es tm ts t shows lim L v =
       bcase (isExpired es t) (λ x. rw x (quiet log tm ts shows v))
       (λ x. rw x (bcase (isFailSafe es) (λ f. rw f (quiet log tm ts shows v))
       (λ f. subst (λ (y : List Show). ShowsInv sm ss log tm ts (shows ++ y))
-      (sym (cond-false (isFailSafe es) [] (record { slave = true; moment = t + c .slave; bytes = shownOf es; sent = ts } ∷ []) f))
-      (add sm ss log tm ts shows (record { slave = true; moment = t + c .slave; bytes = shownOf es; sent = ts })
+      (sym (cond-false (isFailSafe es) [] (record { slave = true; moment = t + c .slave; bytes = shownOf es; sent = ts; written = length log } ∷ []) f))
+      (add sm ss log tm ts shows (record { slave = true; moment = t + c .slave; bytes = shownOf es; sent = ts; written = length log })
       (sent-by sm ss log true ts (t + c .slave) (shownOf es) (L .honest)
       (subst (λ (b : ℕ). ShownAt (marks log) 0 ts (t + c .slave) b (shownOf es)) bound-s (shown-s c sm ss p t lim L x f))) refl v))))
 
   -- what a call adds to the shows, whatever the call; what it writes and takes comes after
   adds-m : (log : List Entry) (em es : Endpoint) (tm ts t : ℕ) (shows : List Show) (call : Call) → t ≤ clockLimit
       → Linked c sm ss (t + c .master) log em es tm ts → ShowsInv sm ss log tm ts shows
-      → ShowsInv sm ss log tm ts (shows ++ shownBy false (t + c .master) tm call (callOf em t call .endpoint))
+      → ShowsInv sm ss log tm ts (shows ++ shownBy false (t + c .master) tm (length log) call (callOf em t call .endpoint))
   adds-m log em es tm ts t shows start lim L v = quiet log tm ts shows v
   adds-m log em es tm ts t shows (send value) lim L v = quiet log tm ts shows v
   adds-m log em es tm ts t shows (deliver f body) lim L v = quiet log tm ts shows v
@@ -97,7 +97,7 @@ module _ (c : Clocks) (sm ss : Settings) (p : Paired sm ss) where
 
   adds-s : (log : List Entry) (em es : Endpoint) (tm ts t : ℕ) (shows : List Show) (call : Call) → t ≤ clockLimit
       → Linked c sm ss (t + c .slave) log em es tm ts → ShowsInv sm ss log tm ts shows
-      → ShowsInv sm ss log tm ts (shows ++ shownBy true (t + c .slave) ts call (callOf es t call .endpoint))
+      → ShowsInv sm ss log tm ts (shows ++ shownBy true (t + c .slave) ts (length log) call (callOf es t call .endpoint))
   adds-s log em es tm ts t shows start lim L v = quiet log tm ts shows v
   adds-s log em es tm ts t shows (send value) lim L v = quiet log tm ts shows v
   adds-s log em es tm ts t shows (deliver f body) lim L v = quiet log tm ts shows v
@@ -115,7 +115,7 @@ module _ (c : Clocks) (sm ss : Settings) (p : Paired sm ss) where
         linked = A .0;
         shown = grow sm ss (l .log) (logged false (t + c .master) call (callOf (l .master) t call .writes)) (l .masterTook) (l .slaveTook)
             (tookBy (l .log) call (callOf (l .master) t call .answer) (l .masterTook)) (l .slaveTook)
-            (l .shows ++ shownBy false (t + c .master) (l .masterTook) call (callOf (l .master) t call .endpoint)) (A .1) (omega arith)
+            (l .shows ++ shownBy false (t + c .master) (l .masterTook) (length (l .log)) call (callOf (l .master) t call .endpoint)) (A .1) (omega arith)
             (adds-m (l .log) (l .master) (l .slave) (l .masterTook) (l .slaveTook) t (l .shows) call lim L (v .shown));
       }
   step l true t call h k lim v =
@@ -125,7 +125,7 @@ module _ (c : Clocks) (sm ss : Settings) (p : Paired sm ss) where
         linked = A .0;
         shown = grow sm ss (l .log) (logged true (t + c .slave) call (callOf (l .slave) t call .writes)) (l .masterTook) (l .slaveTook)
             (l .masterTook) (tookBy (l .log) call (callOf (l .slave) t call .answer) (l .slaveTook))
-            (l .shows ++ shownBy true (t + c .slave) (l .slaveTook) call (callOf (l .slave) t call .endpoint)) (omega arith) (A .1)
+            (l .shows ++ shownBy true (t + c .slave) (l .slaveTook) (length (l .log)) call (callOf (l .slave) t call .endpoint)) (omega arith) (A .1)
             (adds-s (l .log) (l .master) (l .slave) (l .masterTook) (l .slaveTook) t (l .shows) call lim L (v .shown));
       }
 
@@ -184,7 +184,7 @@ module _ (c : Clocks) (sm ss : Settings) (p : Paired sm ss) where
   -- ---- what the invariant says of the shows
   pub fresh-of : (l : Link) → RunInv c sm ss l → Fresh sm ss l
   fresh-of l r = record {
-    there = λ i h. let s = r .shown .its i h in let a = s .sent in let b = s .there in (omega arith, omega arith);
+    there = λ i h. let s = r .shown .its i h in let a = s .sent in let b = s .early in let n = s .known in (omega arith, omega arith, omega arith);
     its-send = λ i k h e.
         let s = r .shown .its i h in
         let a = s .sent in
@@ -202,7 +202,7 @@ silence sm ss c vs slave last p h before i k e =
     let r = along c sm ss p (begun sm ss) vs h (at-first c sm ss p) in
     let s = r .shown .its i k in
     let f = s .fits in
-    let m = before (s .place) (s .there) (f .other ∙ ap not e) (f .refresh) in
+    let m = before (s .place) (let a = s .early in let b = s .known in omega arith) (f .other ∙ ap not e) (f .refresh) in
     let y : showAt (l .shows) i .moment ≤ entryAt (l .log) (s .place) .moment + boundOf (cond slave ss sm) =
     subst (λ (b : Bool). showAt (l .shows) i .moment ≤ entryAt (l .log) (s .place) .moment + boundOf (cond b ss sm)) e (f .young) in
     omega arith

@@ -24,7 +24,8 @@ use Rattle.link.proofs.Shown.{ShownAt}
 pub record Sent (sm ss : Settings) (log : List Entry) (x : Show) : Type 0 where
   pub place : ℕ
   pub sent : x .sent ≡ suc place
-  pub there : place < length log
+  pub early : place < x .written
+  pub known : x .written ≤ length log
   pub fits : ItsSend (boundOf (cond (x .slave) ss sm)) x (entryAt log place)
 
 pub record ShowsInv (sm ss : Settings) (log : List Entry) (tm ts : ℕ) (shows : List Show) : Type 0 where
@@ -47,13 +48,15 @@ module _ (sm ss : Settings) where
   grow log ext tm ts tm′ ts′ shows h k v = record {
     its = λ i j.
         let s = v .its i j in
-        let n = s .there in
+        let k = s .early in
+        let n = s .known in
         let e = length-append log ext in
         record {
           place = s .place;
           sent = s .sent;
-          there = omega arith;
-          fits = subst (ItsSend (boundOf (cond (showAt shows i .slave) ss sm)) (showAt shows i)) (sym (entry-kept log ext (s .place) n)) (s .fits);
+          early = s .early;
+          known = omega arith;
+          fits = subst (ItsSend (boundOf (cond (showAt shows i .slave) ss sm)) (showAt shows i)) (sym (entry-kept log ext (s .place) (omega arith))) (s .fits);
         };
     below = λ i j. let a = v .below i j in let b = cond-le (showAt shows i .slave) ts ts′ tm tm′ k h in omega arith;
     order = v .order;
@@ -128,7 +131,7 @@ writer-of false f h = kind-master (f .application) (is (f .command) K.Refresh) h
 
 pub sent-by : (sm ss : Settings) (log : List Entry) (slave : Bool) (took m : ℕ) (bytes : List ℕ) → ((i : ℕ) → i < length log → Honest (entryAt log i))
     → ShownAt (marks log) (cond slave 0 2) took m (boundOf (cond slave ss sm)) bytes
-    → Sent sm ss log (record { slave = slave; moment = m; bytes = bytes; sent = took })
+    → Sent sm ss log (record { slave = slave; moment = m; bytes = bytes; sent = took; written = length log })
 sent-by sm ss log slave took m bytes honest s =
     let k = s .place in
     let n : k < length log = let z = s .there in let y = size-marks log in omega arith in
@@ -143,7 +146,8 @@ sent-by sm ss log slave took m bytes honest s =
     record {
       place = k;
       sent = s .held;
-      there = n;
+      early = n;
+      known = omega arith;
       fits = record {
         other = sym (h .writer) ∙ writer-of slave (entryAt log k .fields) w;
         refresh = r;

@@ -34,8 +34,10 @@ pub record ItsSend (bound : ℕ) (x : Show) (w : Entry) : Type 0 where
   pub young : x .moment ≤ w .moment + bound
 
 pub record Fresh (sm ss : Settings) (l : Link) : Type 0 where
-  -- each show's send stands in the log: the frame of the S-Refresh that the showing end took last before the show
-  pub there : (i : ℕ) → i < length (l .shows) → (1 ≤ showAt (l .shows) i .sent) × (showAt (l .shows) i .sent ≤ length (l .log))
+  -- each show's send was written before it: the frame of the S-Refresh that the showing end took last
+  pub there : (i : ℕ) → i < length (l .shows)
+      → (1 ≤ showAt (l .shows) i .sent) × (showAt (l .shows) i .sent ≤ showAt (l .shows) i .written)
+      × (showAt (l .shows) i .written ≤ length (l .log))
   pub its-send : (i k : ℕ) → i < length (l .shows) → showAt (l .shows) i .sent ≡ suc k
       → ItsSend (boundOf (cond (showAt (l .shows) i .slave) ss sm)) (showAt (l .shows) i) (entryAt (l .log) k)
   -- a later show at the same end never has an earlier send

@@ -126,9 +126,11 @@ pub record Show : Type 0 where
   pub bytes : List ℕ
   -- one more than the place of the S-Refresh that this end last took
   pub sent : ℕ
+  -- how many frames had been written by then
+  pub written : ℕ
 
 abbrev pub noShow : Show
-noShow = record { slave = false; moment = 0; bytes = []; sent = 0 }
+noShow = record { slave = false; moment = 0; bytes = []; sent = 0; written = 0 }
 
 unfoldable pub showAt : List Show → ℕ → Show
 showAt l i = getD l i noShow
@@ -175,14 +177,14 @@ tookBy l stop a last = last
 tookBy l restart a last = last
 tookBy l show a last = last
 
-abbrev pub shownBy : Bool → ℕ → ℕ → Call → Endpoint → List Show
-shownBy slave m took start e = []
-shownBy slave m took (send value) e = []
-shownBy slave m took (deliver f body) e = []
-shownBy slave m took stop e = []
-shownBy slave m took restart e = []
-shownBy slave m took show e =
-    cond (isFailSafe e) [] (record { slave = slave; moment = m; bytes = shownOf e; sent = took } ∷ [])
+abbrev pub shownBy : Bool → ℕ → ℕ → ℕ → Call → Endpoint → List Show
+shownBy slave m took n start e = []
+shownBy slave m took n (send value) e = []
+shownBy slave m took n (deliver f body) e = []
+shownBy slave m took n stop e = []
+shownBy slave m took n restart e = []
+shownBy slave m took n show e =
+    cond (isFailSafe e) [] (record { slave = slave; moment = m; bytes = shownOf e; sent = took; written = n } ∷ [])
 
 -- moments never fall, and no reading is past the limit
 abbrev pub afterEvent : Clocks → Link → Event → Link
@@ -193,7 +195,7 @@ afterEvent c l v =
       master = cond (v .slave) (l .master) (o .endpoint);
       slave = cond (v .slave) (o .endpoint) (l .slave);
       log = l .log ++ logged (v .slave) m (v .call) (o .writes);
-      shows = l .shows ++ shownBy (v .slave) m (tookAt l (v .slave)) (v .call) (o .endpoint);
+      shows = l .shows ++ shownBy (v .slave) m (tookAt l (v .slave)) (length (l .log)) (v .call) (o .endpoint);
       masterTook = cond (v .slave) (l .masterTook) (tookBy (l .log) (v .call) (o .answer) (l .masterTook));
       slaveTook = cond (v .slave) (tookBy (l .log) (v .call) (o .answer) (l .slaveTook)) (l .slaveTook);
       latest = m;
