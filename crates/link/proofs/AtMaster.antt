@@ -33,7 +33,7 @@ use Rattle.link.proofs.Invariant.{Terms, Small, MPhase, restM, asked, g
 use Rattle.link.proofs.Kept.{m-phase, m-got, m-writes, m-goes, m-takes, held-rises}
 use Rattle.link.proofs.Relation.{termsOf, small-of, whoOf, markOf, marks, topOf, above-top, Holds, LiveAtM, AskedAt, GotAt, RelM, RelS, Honest, Linked, setup-timer, refresh-timer, master-time, young-of}
 use Rattle.link.proofs.Ages.{Young, young-more}
-use Rattle.link.proofs.Entries.{marks-snoc, size-marks, at-marks, honest-snoc, is-eq, FoundAt}
+use Rattle.link.proofs.Entries.{marks-snoc, size-marks, at-marks, honest-snoc, is-eq, FoundAt, in-log, the-mark, marked-code, marked-stamp, marked-body}
 use Rattle.link.proofs.Shown.{ShownAt, in-refresh, is-taken, shown-is}
 use Rattle.link.proofs.Codes.{go-due, go-baseline, request-not-refresh, setup-not-refresh, refresh-not-setup, pending-setup}
 
@@ -231,14 +231,6 @@ module _ (c : Clocks) (sm ss : Settings) (p : Paired sm ss) {l : List Entry} {em
 
   -- ---- a frame of the log, at place k, that the slave wrote
   module _ (f : Fields) (body : List ℕ) (k : ℕ) (g : FoundAt f body l k) (slaves : f .application ≡ true) where
-    in-log : k < size (marks l)
-    in-log = let z = g .there in let y = size-marks l in omega arith
-
-    the-mark : at (marks l) k ≡ mark (whoOf f) (codeOf (f .command)) (f .timestamp) (f .baseline) (entryAt l k .moment) body
-    the-mark =
-        at-marks l k (g .there)
-        ∙ (λ i. mark (whoOf (g .fields i)) (codeOf (g .fields i .command)) (g .fields i .timestamp) (g .fields i .baseline) (entryAt l k .moment) (g .bodies i))
-
     who-is : (b : Bool) → is (f .command) K.Refresh ≡ b → whoOf f ≡ cond b 2 1
     who-is b h = (λ i. cond (slaves i) (cond (h i) 2 1) 0)
 
@@ -264,9 +256,9 @@ module _ (c : Clocks) (sm ss : Settings) (p : Paired sm ss) {l : List Entry} {em
           let s2 : confirmedOf em t .state ≡ RefreshPending = rw e in
           let m2 : confirmedOf em t .setup .measured ≡ t = rw e in
           let ph : L .master .phase ≡ asked 252 (f .timestamp) = a .phase ∙ ap (λ (y : State). asked (codeOf (requestOf y)) (f .timestamp)) e in
-          let w1 : at (marks l) k .who ≡ 1 = ap (λ (y : Mark). y .who) the-mark ∙ who-is false not-refresh in
-          let w2 : at (marks l) k .code ≡ 252 = ap (λ (y : Mark). y .code) the-mark ∙ ap codeOf due ∙ ap (λ (y : State). codeOf (requestOf y)) e in
-          let w3 : at (marks l) k .stamp ≡ f .timestamp = ap (λ (y : Mark). y .stamp) the-mark in
+          let w1 : at (marks l) k .who ≡ 1 = ap (λ (y : Mark). y .who) (the-mark f body l k g) ∙ who-is false not-refresh in
+          let w2 : at (marks l) k .code ≡ 252 = ap (λ (y : Mark). y .code) (the-mark f body l k g) ∙ ap codeOf due ∙ ap (λ (y : State). codeOf (requestOf y)) e in
+          let w3 : at (marks l) k .stamp ≡ f .timestamp = ap (λ (y : Mark). y .stamp) (the-mark f body l k g) in
           record {
             master = record { nextOut = L .master .nextOut; nextIn = L .master .nextIn; held = L .master .held; phase = got t };
             slave = L .slave;
@@ -282,7 +274,7 @@ module _ (c : Clocks) (sm ss : Settings) (p : Paired sm ss) {l : List Entry} {em
             };
             relS = L .relS;
             honest = L .honest;
-            inv = m-got (termsOf c sm ss) (small-of c sm ss p) t (f .timestamp) k ph (omega arith) (omega arith) in-log w1 w2 w3 (L .inv);
+            inv = m-got (termsOf c sm ss) (small-of c sm ss p) t (f .timestamp) k ph (omega arith) (omega arith) (in-log f body l k g) w1 w2 w3 (L .inv);
           }
       confirmed RefreshPending e h =
           let q = L .relM in
@@ -313,18 +305,12 @@ module _ (c : Clocks) (sm ss : Settings) (p : Paired sm ss) {l : List Entry} {em
     -- an S-Refresh of the slave
     module _ (d : RefreshTaken em t (f .timestamp) body) (r : is (f .command) K.Refresh ≡ true) where
       marked-who : at (marks l) k .who ≡ 2
-      marked-who = ap (λ (y : Mark). y .who) the-mark ∙ who-is true r
-
-      marked-code : at (marks l) k .code ≡ 255
-      marked-code = ap (λ (y : Mark). y .code) the-mark ∙ eqb-true (codeOf (f .command)) 255 r
-
-      marked-stamp : at (marks l) k .stamp ≡ f .timestamp
-      marked-stamp = ap (λ (y : Mark). y .stamp) the-mark
+      marked-who = ap (λ (y : Mark). y .who) (the-mark f body l k g) ∙ who-is true r
 
       young : Young (minus (t % span) (at (marks l) k .stamp)) (sm .roundtrip) (sm .age)
       young =
           let a : ageOf em t (f .timestamp) ≡ minus (t % span) (at (marks l) k .stamp) =
-          ap (λ (y : ℕ). minus y (f .timestamp)) (time ∙ omega arith) ∙ ap (minus (t % span)) (sym marked-stamp) in
+          ap (λ (y : ℕ). minus y (f .timestamp)) (time ∙ omega arith) ∙ ap (minus (t % span)) (sym (marked-stamp f body l k g)) in
           let w : allowanceOf (em .settings) ≡ sm .roundtrip = cond-false (em .settings .slave) 0 (em .settings .roundtrip) role ∙ ap (λ (y : Settings). y .roundtrip) (L .setM) in
           let g : em .settings .age ≡ sm .age = ap (λ (y : Settings). y .age) (L .setM) in
           young-of (ageOf em t (f .timestamp)) (allowanceOf (em .settings)) (em .settings .age) _ _ _ a w g (d .near) (d .young)
@@ -334,8 +320,8 @@ module _ (c : Clocks) (sm ss : Settings) (p : Paired sm ss) {l : List Entry} {em
           let q = L .relM in
           let a = above-top (em .timestamps .accepted) (f .timestamp) (d .above) in
           let i = q .nextIn in
-          let s = marked-stamp in
-          let z = held-rises (termsOf c sm ss) (small-of c sm ss p) 2 (L .master .nextIn) (L .master .held) k (L .inv .log) (L .inv .master .held) in-log marked-who (omega arith) in
+          let s = (marked-stamp f body l k g) in
+          let z = held-rises (termsOf c sm ss) (small-of c sm ss p) 2 (L .master .nextIn) (L .master .held) k (L .inv .log) (L .inv .master .held) (in-log f body l k g) marked-who (omega arith) in
           let h = q .held in
           omega arith
 
@@ -344,9 +330,9 @@ module _ (c : Clocks) (sm ss : Settings) (p : Paired sm ss) {l : List Entry} {em
           let q = L .relM in
           let a = above-top (em .timestamps .accepted) (f .timestamp) (d .above) in
           let i = q .nextIn in
-          let s = marked-stamp in
+          let s = (marked-stamp f body l k g) in
           let n = refresh-not-setup (em .state) (d .refresh) in
-          let b : at (marks l) k .body ≡ body = ap (λ (y : Mark). y .body) the-mark in
+          let b = marked-body f body l k g in
           record {
             master = record { nextOut = L .master .nextOut; nextIn = suc (at (marks l) k .stamp); held = suc k; phase = liveM t (some (at (marks l) k .body)) };
             slave = L .slave;
@@ -354,7 +340,7 @@ module _ (c : Clocks) (sm ss : Settings) (p : Paired sm ss) {l : List Entry} {em
             setS = L .setS;
             relM = record {
               nextOut = q .nextOut;
-              nextIn = ap suc (sym marked-stamp);
+              nextIn = ap suc (sym (marked-stamp f body l k g));
               held = refl;
               live = λ z. record { value = some body; phase = ap (λ (y : List ℕ). liveM t (some y)) b; holds = (refl, refl, d .width) };
               pend = λ z y o. absurd (true≢false (sym z ∙ n));
@@ -362,7 +348,7 @@ module _ (c : Clocks) (sm ss : Settings) (p : Paired sm ss) {l : List Entry} {em
             };
             relS = L .relS;
             honest = L .honest;
-            inv = m-takes (termsOf c sm ss) (small-of c sm ss p) t k refl (omega arith) in-log marked-who marked-code (omega arith) (young-more _ _ _ _ (omega arith) young) (L .inv);
+            inv = m-takes (termsOf c sm ss) (small-of c sm ss p) t k refl (omega arith) (in-log f body l k g) marked-who ((marked-code f body l k g) ∙ eqb-true (codeOf (f .command)) 255 r) (omega arith) (young-more _ _ _ _ (omega arith) young) (L .inv);
           }
 
   -- ---- a show that is not fail-safe

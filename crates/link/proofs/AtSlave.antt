@@ -33,7 +33,7 @@ use Rattle.link.proofs.Ages.{Young}
 use Rattle.link.proofs.Invariant.{Terms, Small, SPhase, restS, armed, liveS, Master, Slave, Inv, SPh, Held, ValueOf, LiveS, wobble}
 use Rattle.link.proofs.Kept.{s-phase, s-hears, s-replies, s-arms, s-goes, s-sends, s-takes, held-rises}
 use Rattle.link.proofs.Relation.{termsOf, small-of, whoOf, markOf, marks, topOf, above-top, Holds, LiveAtS, ArmedAt, RelM, RelS, Honest, Linked, setup-timer, refresh-timer, slave-time, young-of}
-use Rattle.link.proofs.Entries.{marks-snoc, size-marks, at-marks, honest-snoc, is-eq, FoundAt}
+use Rattle.link.proofs.Entries.{marks-snoc, size-marks, at-marks, honest-snoc, is-eq, FoundAt, in-log, the-mark, marked-code, marked-stamp, marked-body}
 use Rattle.link.proofs.Shown.{ShownAt, in-refresh, is-taken, shown-is}
 use Rattle.link.proofs.Codes.{refresh-not-setup, pending-setup, targetOf, leads, go-from}
 
@@ -118,32 +118,18 @@ module _ (c : Clocks) (sm ss : Settings) (p : Paired sm ss) {l : List Entry} {em
 
   -- ---- a frame of the log, at place k, that the master wrote
   module _ (f : Fields) (body : List ℕ) (k : ℕ) (g : FoundAt f body l k) (masters : f .application ≡ false) where
-    in-log : k < size (marks l)
-    in-log = let z = g .there in let y = size-marks l in omega arith
-
-    the-mark : at (marks l) k ≡ mark (whoOf f) (codeOf (f .command)) (f .timestamp) (f .baseline) (entryAt l k .moment) body
-    the-mark =
-        at-marks l k (g .there)
-        ∙ (λ i. mark (whoOf (g .fields i)) (codeOf (g .fields i .command)) (g .fields i .timestamp) (g .fields i .baseline) (entryAt l k .moment) (g .bodies i))
-
     marked-who : at (marks l) k .who ≡ 0
-    marked-who = ap (λ (y : Mark). y .who) the-mark ∙ (λ i. cond (masters i) (cond (is (f .command) K.Refresh) 2 1) 0)
-
-    marked-code : at (marks l) k .code ≡ codeOf (f .command)
-    marked-code = ap (λ (y : Mark). y .code) the-mark
-
-    marked-stamp : at (marks l) k .stamp ≡ f .timestamp
-    marked-stamp = ap (λ (y : Mark). y .stamp) the-mark
+    marked-who = ap (λ (y : Mark). y .who) (the-mark f body l k g) ∙ (λ i. cond (masters i) (cond (is (f .command) K.Refresh) 2 1) 0)
 
     marked-baseline : at (marks l) k .baseline ≡ f .baseline
-    marked-baseline = ap (λ (y : Mark). y .baseline) the-mark
+    marked-baseline = ap (λ (y : Mark). y .baseline) (the-mark f body l k g)
 
     small-stamp : f .timestamp < span
-    small-stamp = let z = L .inv .log .stamped k in-log .small in let y = marked-stamp in omega arith
+    small-stamp = let z = L .inv .log .stamped k (in-log f body l k g) .small in let y = (marked-stamp f body l k g) in omega arith
 
     module _ (a : isAbove (es .timestamps .accepted) (f .timestamp) ≡ true) where
       next-below : L .slave .nextIn ≤ at (marks l) k .stamp
-      next-below = let z = above-top (es .timestamps .accepted) (f .timestamp) a in let y = marked-stamp in let o = L .relS .nextIn in omega arith
+      next-below = let z = above-top (es .timestamps .accepted) (f .timestamp) a in let y = (marked-stamp f body l k g) in let o = L .relS .nextIn in omega arith
 
       -- S-Disconnect: no reply
       pub heard-s : Linked c sm ss (t + c .slave) l em (endedBy es (f .timestamp)) tm ts
@@ -157,13 +143,13 @@ module _ (c : Clocks) (sm ss : Settings) (p : Paired sm ss) {l : List Entry} {em
             relM = L .relM;
             relS = record {
               nextOut = q .nextOut;
-              nextIn = ap suc (sym marked-stamp);
+              nextIn = ap suc (sym (marked-stamp f body l k g));
               held = q .held;
               live = λ h. absurd (false≢true h);
               ready = λ h. absurd (false≢true h);
             };
             honest = L .honest;
-            inv = s-hears (termsOf c sm ss) (small-of c sm ss p) k in-log marked-who next-below (L .inv);
+            inv = s-hears (termsOf c sm ss) (small-of c sm ss p) k (in-log f body l k g) marked-who next-below (L .inv);
           }
 
       -- a reply, with Error or not
@@ -173,7 +159,7 @@ module _ (c : Clocks) (sm ss : Settings) (p : Paired sm ss) {l : List Entry} {em
 
         reply-mark : markOf replying ≡ mark 1 (codeOf (f .command)) (at (marks l) k .stamp) 0 (t + c .slave) body
         reply-mark =
-            let s : f .timestamp % span ≡ at (marks l) k .stamp = mod-eq-of-lt small-stamp ∙ sym marked-stamp in
+            let s : f .timestamp % span ≡ at (marks l) k .stamp = mod-eq-of-lt small-stamp ∙ sym (marked-stamp f body l k g) in
             λ i. mark (cond (n i) 2 1) (codeOf (f .command)) (s i) 0 (t + c .slave) body
 
         reply-honest : Honest replying
@@ -207,12 +193,12 @@ module _ (c : Clocks) (sm ss : Settings) (p : Paired sm ss) {l : List Entry} {em
             replied e restS s
             (record {
               nextOut = o ∙ q .nextOut;
-              nextIn = i ∙ ap suc (sym marked-stamp);
+              nextIn = i ∙ ap suc (sym (marked-stamp f body l k g));
               held = q .held;
               live = λ z. absurd (true≢false (sym z ∙ r));
               ready = λ z. absurd (true≢false (sym z ∙ h));
             })
-            (s-replies (termsOf c sm ss) (small-of c sm ss p) (t + c .slave) k (codeOf (f .command)) body restS refl in-log marked-who next-below tt (L .inv))
+            (s-replies (termsOf c sm ss) (small-of c sm ss p) (t + c .slave) k (codeOf (f .command)) body restS refl (in-log f body l k g) marked-who next-below tt (L .inv))
 
         pub unequal-s : Linked c sm ss (t + c .slave) (l ++ (replying ∷ [])) em (endedBy es (f .timestamp)) tm ts
         unequal-s = replied-rest (endedBy es (f .timestamp)) (L .setS) refl refl refl refl
@@ -233,13 +219,13 @@ module _ (c : Clocks) (sm ss : Settings) (p : Paired sm ss) {l : List Entry} {em
             replied false n (advancedOf es t f) (armed t) (L .setS)
             (record {
               nextOut = q .nextOut;
-              nextIn = ap suc (sym marked-stamp);
+              nextIn = ap suc (sym (marked-stamp f body l k g));
               held = q .held;
               live = λ z. absurd (false≢true (sym (ap (λ (y : State). isState y Refresh) s2) ∙ z));
               ready = λ z. record { phase = ap armed (sym m2); since = sym m2 };
             })
-            (s-arms (termsOf c sm ss) (small-of c sm ss p) t (t + c .slave) k (codeOf (f .command)) body refl refl (omega arith) in-log marked-who
-            (marked-code ∙ ap codeOf e) next-below (L .inv))
+            (s-arms (termsOf c sm ss) (small-of c sm ss p) t (t + c .slave) k (codeOf (f .command)) body refl refl (omega arith) (in-log f body l k g) marked-who
+            ((marked-code f body l k g) ∙ ap codeOf e) next-below (L .inv))
 
         -- S-RefreshGO: ts_offset
         go-s : f .command ≡ K.RefreshGo → Linked c sm ss (t + c .slave) (l ++ (replying false n ∷ [])) em (advancedOf es t f) tm ts
@@ -251,18 +237,18 @@ module _ (c : Clocks) (sm ss : Settings) (p : Paired sm ss) {l : List Entry} {em
             let i = r .since in
             let R : es .settings .roundtrip ≡ ss .roundtrip = ap (λ (y : Settings). y .roundtrip) (L .setS) in
             let off : minus (minus (at (marks l) k .stamp) (at (marks l) k .baseline)) (es .setup .measured) ≡ advancedOf es t f .setup .offset =
-            (λ j. minus (minus (marked-stamp j) (marked-baseline j)) (es .setup .measured))
+            (λ j. minus (minus ((marked-stamp f body l k g) j) (marked-baseline j)) (es .setup .measured))
             ∙ sym (ap (λ (y : Command). cond (is y K.RefreshGo) (offsetFrom (f .timestamp) (f .baseline) (es .setup .measured)) (es .setup .offset)) e) in
             replied false n (advancedOf es t f) (liveS (minus (minus (at (marks l) k .stamp) (at (marks l) k .baseline)) (es .setup .measured)) t none) (L .setS)
             (record {
               nextOut = q .nextOut;
-              nextIn = ap suc (sym marked-stamp);
+              nextIn = ap suc (sym (marked-stamp f body l k g));
               held = q .held;
               live = λ z. record { value = none; phase = ap (λ (y : ℕ). liveS y t none) off; holds = refl };
               ready = λ z. absurd (false≢true (sym (ap (λ (y : State). isState y RefreshPending) s2) ∙ z));
             })
             (s-goes (termsOf c sm ss) (small-of c sm ss p) t (t + c .slave) k (codeOf (f .command)) (es .setup .measured) body (r .phase) refl refl (omega arith)
-            in-log marked-who (marked-code ∙ ap codeOf e) next-below (L .inv))
+            (in-log f body l k g) marked-who ((marked-code f body l k g) ∙ ap codeOf e) next-below (L .inv))
 
         plain-s : (q : Command) → f .command ≡ q → isState (targetOf q) Refresh ≡ false → isState (targetOf q) RefreshPending ≡ false
             → Linked c sm ss (t + c .slave) (l ++ (replying false n ∷ [])) em (advancedOf es t f) tm ts
@@ -287,7 +273,7 @@ module _ (c : Clocks) (sm ss : Settings) (p : Paired sm ss) {l : List Entry} {em
       young : Young (minus ((t + es .setup .offset) % span) (at (marks l) k .stamp)) wobble (ss .age)
       young =
           let a : ageOf es t (f .timestamp) ≡ minus ((t + es .setup .offset) % span) (at (marks l) k .stamp) =
-          ap (λ (y : ℕ). minus y (f .timestamp)) time ∙ ap (minus ((t + es .setup .offset) % span)) (sym marked-stamp) in
+          ap (λ (y : ℕ). minus y (f .timestamp)) time ∙ ap (minus ((t + es .setup .offset) % span)) (sym (marked-stamp f body l k g)) in
           let w : allowanceOf (es .settings) ≡ 0 = cond-true (es .settings .slave) 0 (es .settings .roundtrip) role in
           let h : es .settings .age ≡ ss .age = ap (λ (y : Settings). y .age) (L .setS) in
           young-of (ageOf es t (f .timestamp)) (allowanceOf (es .settings)) (es .settings .age) _ _ _ a w h (d .near) (d .young)
@@ -295,7 +281,7 @@ module _ (c : Clocks) (sm ss : Settings) (p : Paired sm ss) {l : List Entry} {em
       pub rises-s : ts ≤ k
       rises-s =
           let q = L .relS in
-          let z = held-rises (termsOf c sm ss) (small-of c sm ss p) 0 (L .slave .nextIn) (L .slave .held) k (L .inv .log) (L .inv .slave .held) in-log marked-who (next-below (d .above)) in
+          let z = held-rises (termsOf c sm ss) (small-of c sm ss p) 0 (L .slave .nextIn) (L .slave .held) k (L .inv .log) (L .inv .slave .held) (in-log f body l k g) marked-who (next-below (d .above)) in
           let h = q .held in
           omega arith
 
@@ -306,7 +292,7 @@ module _ (c : Clocks) (sm ss : Settings) (p : Paired sm ss) {l : List Entry} {em
           let n = refresh-not-setup (es .state) (d .refresh) in
           let u = refresh-timer es t x (d .refresh) in
           let I : es .settings .interval ≡ ss .interval = ap (λ (y : Settings). y .interval) (L .setS) in
-          let b : at (marks l) k .body ≡ body = ap (λ (y : Mark). y .body) the-mark in
+          let b = marked-body f body l k g in
           record {
             master = L .master;
             slave = record { nextOut = L .slave .nextOut; nextIn = suc (at (marks l) k .stamp); held = suc k; phase = liveS (es .setup .offset) t (some (at (marks l) k .body)) };
@@ -315,14 +301,14 @@ module _ (c : Clocks) (sm ss : Settings) (p : Paired sm ss) {l : List Entry} {em
             relM = L .relM;
             relS = record {
               nextOut = q .nextOut;
-              nextIn = ap suc (sym marked-stamp);
+              nextIn = ap suc (sym (marked-stamp f body l k g));
               held = refl;
               live = λ z. record { value = some body; phase = ap (λ (y : List ℕ). liveS (es .setup .offset) t (some y)) b; holds = (refl, refl, d .width) };
               ready = λ z. absurd (true≢false (sym (pending-setup (es .state) z) ∙ n));
             };
             honest = L .honest;
             inv = s-takes (termsOf c sm ss) (small-of c sm ss p) t (t + c .slave) (es .setup .offset) (es .since) k (v .value) (v .phase) refl refl (omega arith)
-                in-log marked-who (marked-code ∙ eqb-true (codeOf (f .command)) 255 r) (next-below (d .above)) young (L .inv);
+                (in-log f body l k g) marked-who ((marked-code f body l k g) ∙ eqb-true (codeOf (f .command)) 255 r) (next-below (d .above)) young (L .inv);
           }
 
   -- ---- a show that is not fail-safe

@@ -20,8 +20,8 @@ use Rattle.frame.specs.Reading.{same}
 use Rattle.frame.proofs.Alike.{and-left, and-right, same-eq}
 use Rattle.frame.proofs.Digits.{command-of-code}
 use Rattle.link.specs.Runs.{Entry, noEntry, entryAt, sameFields, lastFrom, lastOf}
-use Rattle.link.proofs.Marks.{Mark, size, at, snoc}
-use Rattle.link.proofs.Relation.{markOf, marks, Honest}
+use Rattle.link.proofs.Marks.{Mark, mark, size, at, snoc}
+use Rattle.link.proofs.Relation.{whoOf, markOf, marks, Honest}
 
 -- ---- marks
 pub marks-snoc : (l : List Entry) (w : Entry) → marks (l ++ (w ∷ [])) ≡ snoc (marks l) (markOf w)
@@ -151,3 +151,22 @@ found-at f body l k e = go (found-from f body l 0 0)
     go : Found f body l 0 0 (lastFrom 0 f body l 0) → FoundAt f body l k
     go (before z) = absurd (omega arith)
     go (here j z p) = let q : j ≡ k = omega arith in subst (FoundAt f body l) q p
+
+-- ---- the mark of a frame that was found
+module _ (f : Fields) (body : List ℕ) (l : List Entry) (k : ℕ) (g : FoundAt f body l k) where
+  pub in-log : k < size (marks l)
+  in-log = let z = g .there in let y = size-marks l in omega arith
+
+  pub the-mark : at (marks l) k ≡ mark (whoOf f) (codeOf (f .command)) (f .timestamp) (f .baseline) (entryAt l k .moment) body
+  the-mark =
+      at-marks l k (g .there)
+      ∙ (λ i. mark (whoOf (g .fields i)) (codeOf (g .fields i .command)) (g .fields i .timestamp) (g .fields i .baseline) (entryAt l k .moment) (g .bodies i))
+
+  pub marked-code : at (marks l) k .code ≡ codeOf (f .command)
+  marked-code = ap (λ (y : Mark). y .code) the-mark
+
+  pub marked-stamp : at (marks l) k .stamp ≡ f .timestamp
+  marked-stamp = ap (λ (y : Mark). y .stamp) the-mark
+
+  pub marked-body : at (marks l) k .body ≡ body
+  marked-body = ap (λ (y : Mark). y .body) the-mark
