@@ -1,0 +1,2 @@
+-- Laws of the list's tests.
+pub mod Tests

@@ -1,0 +1,3 @@
+-- The settings list, in reading order.
+pub mod Words
+pub mod Lists
