@@ -44,17 +44,23 @@ pub record Fresh (sm ss : Settings) (l : Link) : Type 0 where
   pub in-order : (i j : ℕ) → i < j → j < length (l .shows) → showAt (l .shows) i .slave ≡ showAt (l .shows) j .slave
       → showAt (l .shows) i .sent ≤ showAt (l .shows) j .sent
 
--- for every list of calls on two endpoints just loaded
-abbrev pub AgeTheorem : Type 0
-AgeTheorem = (sm ss : Settings) (c : Clocks) (vs : List Event) → Paired sm ss → afterAll c (begun sm ss) vs .allowed ≡ true
-    → Fresh sm ss (afterAll c (begun sm ss) vs)
+-- two endpoints just loaded, after a list of calls
+abbrev pub runOf : Settings → Settings → Clocks → List Event → Link
+runOf sm ss c vs = afterAll c (begun sm ss) vs
 
--- once an end sends no more, every show at the other more than the bound after its last send is fail-safe
+-- demand 3, for every list that keeps to what it runs over
+abbrev pub AgeTheorem : Type 0
+AgeTheorem = (sm ss : Settings) (c : Clocks) (vs : List Event) → Paired sm ss → runOf sm ss c vs .allowed ≡ true → Fresh sm ss (runOf sm ss c vs)
+
+-- an end has written no S-Refresh after a moment
+abbrev pub SilentSince : Bool → ℕ → Link → Type 0
+SilentSince slave last l =
+    (k : ℕ) → k < length (l .log) → entryAt (l .log) k .slave ≡ slave → is (entryAt (l .log) k .fields .command) K.Refresh ≡ true
+    → entryAt (l .log) k .moment ≤ last
+
+-- then every show at the other end that is not fail-safe comes within the bound after it
 abbrev pub Silence : Type 0
-Silence = (sm ss : Settings) (c : Clocks) (vs : List Event) (slave : Bool) (last : ℕ) → Paired sm ss
-    → afterAll c (begun sm ss) vs .allowed ≡ true
-    → ((k : ℕ) → k < length (afterAll c (begun sm ss) vs .log) → entryAt (afterAll c (begun sm ss) vs .log) k .slave ≡ not slave
-    → is (entryAt (afterAll c (begun sm ss) vs .log) k .fields .command) K.Refresh ≡ true
-    → entryAt (afterAll c (begun sm ss) vs .log) k .moment ≤ last)
-    → (i : ℕ) → i < length (afterAll c (begun sm ss) vs .shows) → showAt (afterAll c (begun sm ss) vs .shows) i .slave ≡ slave
-    → showAt (afterAll c (begun sm ss) vs .shows) i .moment ≤ last + boundOf (cond slave ss sm)
+Silence = (sm ss : Settings) (c : Clocks) (vs : List Event) (slave : Bool) (last : ℕ) → Paired sm ss → runOf sm ss c vs .allowed ≡ true
+    → SilentSince (not slave) last (runOf sm ss c vs)
+    → (i : ℕ) → i < length (runOf sm ss c vs .shows) → showAt (runOf sm ss c vs .shows) i .slave ≡ slave
+    → showAt (runOf sm ss c vs .shows) i .moment ≤ last + boundOf (cond slave ss sm)
