@@ -13,3 +13,4 @@ pub mod Events
 pub mod Ends
 pub mod Sends
 pub mod AgeProof
+pub mod Example

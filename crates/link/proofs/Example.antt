@@ -1,0 +1,70 @@
+-- The theorem's premises can be met: a line starts, refreshes both ways, and shows both values. All of it is computed.
+use mathlib.Core.Path.{_≡_, refl}
+use mathlib.Core.Bool.{Bool, true, false}
+use mathlib.Core.List.{List, [], _∷_, _++_}
+use Prim.Native.Nat.{ℕ, _+_}
+use lib.Dec.{lit≤}
+use Rattle.frame.specs.declared.Command.{Command}
+use Rattle.frame.specs.declared.Command.the-variants as K
+use Rattle.frame.specs.declared.Fields.{Fields}
+use Rattle.endpoint.specs.declared.Settings.{Settings}
+use Rattle.steps.specs.Frames.{plainFields, setupData}
+use Rattle.link.specs.Runs.{Clocks, Call, start, send, deliver, stop, restart, show, Event, entryAt, sameFields, lastFrom, lastOf, Show, Link}
+use Rattle.link.specs.Fresh.{Paired, runOf}
+
+settings : Bool → Settings
+settings slave = record { connection = 0x01020103; slave = slave; masterwords = 1; slavewords = 1; interval = 100; roundtrip = 50; age = 50; station = 7 }
+
+at-master : ℕ → Call → Event
+at-master t call = record { slave = false; clock = t; call = call }
+
+at-slave : ℕ → Call → Event
+at-slave t call = record { slave = true; clock = t; call = call }
+
+-- the slave's clock is 5,000 ticks ahead of the master's
+clocks : Clocks
+clocks = record { master = 5000; slave = 0 }
+
+-- a request written at t, taken by the slave, and its reply taken by the master one tick later each
+exchange : ℕ → Command → ℕ → List Event
+exchange t k baseline =
+    at-master t (send [])
+    ∷ at-slave (5001 + t) (deliver (plainFields k false false false 0x01020103 t baseline) (setupData (settings false) k))
+    ∷ at-master (2 + t) (deliver (plainFields k true false true 0x01020103 t 0) (setupData (settings false) k)) ∷ []
+
+line : List Event
+line =
+    (at-master 9 start ∷ [])
+    ++ (exchange 10 K.Connect 0
+    ++ (exchange 20 K.ConfirmNetwork 0
+    ++ (exchange 30 K.VerifyStation 0
+    ++ (exchange 40 K.RefreshReady 0
+    ++ (exchange 50 K.RefreshGo 8
+    ++ (at-master 60 (send (1 ∷ 2 ∷ 3 ∷ 4 ∷ []))
+    ∷ at-slave 5061 (deliver (plainFields K.Refresh false false false 0x01020103 60 0) (1 ∷ 2 ∷ 3 ∷ 4 ∷ []))
+    ∷ at-slave 5070 show
+    ∷ at-slave 5071 (send (5 ∷ 6 ∷ 7 ∷ 8 ∷ []))
+    ∷ at-master 72 (deliver (plainFields K.Refresh false false true 0x01020103 72 0) (5 ∷ 6 ∷ 7 ∷ 8 ∷ []))
+    ∷ at-master 80 show ∷ []))))))
+
+run : Link
+run = runOf (settings false) (settings true) clocks line
+
+paired : Paired (settings false) (settings true)
+unfolding settings
+paired = record {
+  master = refl;
+  slave = refl;
+  ticksM = record { interval = lit≤ tt; roundtrip = lit≤ tt; age = lit≤ tt };
+  ticksS = record { interval = lit≤ tt; roundtrip = lit≤ tt; age = lit≤ tt };
+}
+
+allowed : run .allowed ≡ true
+unfolding run line exchange clocks at-master at-slave settings setupData sameFields lastFrom lastOf
+allowed = refl
+
+shown : run .shows ≡
+    (record { slave = true; moment = 5070; bytes = 1 ∷ 2 ∷ 3 ∷ 4 ∷ []; sent = 11; written = 11 }
+    ∷ record { slave = false; moment = 5080; bytes = 5 ∷ 6 ∷ 7 ∷ 8 ∷ []; sent = 12; written = 12 } ∷ [])
+unfolding run line exchange clocks at-master at-slave settings setupData sameFields lastFrom lastOf
+shown = refl
