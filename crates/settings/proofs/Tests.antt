@@ -1,6 +1,13 @@
--- Three tests before a fourth.
+-- Three tests before a fourth; a right list has at most 8 connections.
 use mathlib.Core.Path.{_≡_, refl, sym}
 use mathlib.Core.Bool.{Bool, true, false, _&&_, not, true≢false, false≢true}
+use mathlib.Core.List.{List}
+use Prim.Native.Nat.{ℕ, _%_, _≤_}
+use lib.Dec.{eqb, leb}
+use lib.ListN.{length}
+use borrow.Author.Tests.{leb-true}
+use Rattle.frame.proofs.Alike.{and-left, and-right}
+use Rattle.settings.specs.Lists.{countOf, isList}
 
 pub three-no : (a b c d : Bool) → not (a && (b && c)) ≡ true → (a && (b && (c && d))) ≡ false
 three-no true true true d h = absurd (false≢true h)
@@ -19,3 +26,9 @@ third true true true h = refl
 third true true false h = absurd (true≢false h)
 third true false c h = absurd (true≢false h)
 third false b c h = absurd (true≢false h)
+
+pub count-le : (ws : List ℕ) → isList ws ≡ true → countOf ws ≤ 8
+unfolding isList
+count-le ws h =
+    leb-true (countOf ws) 8
+    (and-left (leb (countOf ws) 8) _ (and-right (leb 1 (countOf ws)) _ (and-right (eqb (length ws % 7) 0) _ h)))

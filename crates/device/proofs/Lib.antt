@@ -1,0 +1,2 @@
+-- Laws that serve several functions.
+pub mod Each

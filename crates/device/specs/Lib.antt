@@ -1,0 +1,3 @@
+-- Devices, in reading order.
+pub mod Tables
+pub mod Loading

@@ -1,0 +1,29 @@
+-- A device's table of connections, and the clock step on all of them.
+use mathlib.Core.Bool.{Bool, true, false}
+use mathlib.Core.List.{List, [], _∷_, map}
+use Prim.Native.Nat.{ℕ, zero, suc}
+use lib.ListN.{replicate, set}
+use Rattle.endpoint.specs.declared.Settings.{Settings}
+use Rattle.endpoint.specs.declared.Timestamp.the-variants.{Never}
+use Rattle.endpoint.specs.declared.Endpoint.{Endpoint}
+use Rattle.endpoint.specs.Time.{afterTick}
+use Rattle.steps.specs.Calls.{freshOf}
+use Rattle.settings.specs.Lists.{settingsAt}
+use Rattle.device.specs.declared.Device.{Device}
+
+-- a place of the table that holds no connection
+abbrev pub noSettings : Settings
+noSettings = record { connection = 0; slave = false; masterwords = 0; slavewords = 0; interval = 0; roundtrip = 0; age = 0; station = 0 }
+
+-- the first n places of a table hold the connections of a list, each in Close; the others none
+unfoldable pub freshUpTo : List ℕ → ℕ → List Endpoint
+freshUpTo ws zero = replicate 8 (freshOf noSettings)
+freshUpTo ws (suc n) = set (freshUpTo ws n) n (freshOf (settingsAt ws n))
+
+-- a device of no connections: never loaded, or after number 18
+unfoldable pub unloaded : Device
+unloaded = record { last = Never; count = 0; endpoints = replicate 8 (freshOf noSettings) }
+
+-- the clock step of every connection
+unfoldable pub tickedAll : ℕ → List Endpoint → List Endpoint
+tickedAll t es = map (λ e. afterTick e t) es
