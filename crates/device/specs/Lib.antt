@@ -1,3 +1,4 @@
 -- Devices, in reading order.
 pub mod Tables
 pub mod Loading
+pub mod Clock

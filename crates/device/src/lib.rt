@@ -1,5 +1,6 @@
 // A device: the table of its connections, and its last accepted clock reading. By value.
 
+pub mod clock;
 pub mod load;
 pub mod table;
 

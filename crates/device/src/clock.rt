@@ -1,0 +1,28 @@
+// Clock readings: which are accepted, and what an accepted one does to a device.
+ghost use mathlib.Core.Path.{_≡_};
+ghost use Rattle.device.specs.Clock.{isReading, clockStep};
+use super::Device;
+use super::table::tick_all;
+use endpoint::Timestamp;
+
+// At most 2^48 - 65,537, and not below the device's last: else number 1.
+pub fn is_reading(last: Timestamp, clock: u64) -> bool
+    ensures { λ r. ⌜ r ≡ isReading last clock ⌝ }
+{
+    match last {
+        Timestamp::Never => clock <= 281474976645119,
+        Timestamp::At(before) => (before <= clock) & (clock <= 281474976645119),
+    }
+}
+
+// The reading is the device's last, and every connection takes the clock step.
+pub fn clock_step(device: Device, clock: u64) -> Device
+    ensures { λ r. ⌜ r ≡ clockStep clock device ⌝ }
+{
+    let endpoints = device.endpoints;
+    Device {
+        last: Timestamp::At(clock),
+        count: device.count,
+        endpoints: tick_all(endpoints, clock),
+    }
+}
