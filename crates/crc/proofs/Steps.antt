@@ -46,7 +46,8 @@ xor-assoc =
     (λ n ih b d.
     xor-step (bitXor n b) d
     ∙ ap₂ (λ (x y : ℕ). bitXor x (d / 2) * 2 + differ y (d % 2)) (xor-half n b) (xor-odd n b)
-    ∙ ap₂ (λ (x y : ℕ). x * 2 + y) (ih (b / 2) (d / 2)) (differ-assoc (n % 2) (b % 2) (d % 2) (mod2 n) (mod2 b) (mod2 d))
+    ∙ ap₂ (λ (x y : ℕ). x * 2 + y) (ih (b / 2) (d / 2))
+    (differ-assoc (n % 2) (b % 2) (d % 2) (mod2 n) (mod2 b) (mod2 d))
     ∙ ap₂ (λ (x y : ℕ). bitXor (n / 2) x * 2 + differ (n % 2) y) (sym (xor-half b d)) (sym (xor-odd b d))
     ∙ sym (xor-step n (bitXor b d)))
 

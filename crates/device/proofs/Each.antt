@@ -16,7 +16,8 @@ upTo-at f [] (suc i) d = refl
 upTo-at f (x ∷ xs) zero d = refl
 upTo-at f (x ∷ xs) (suc i) d = upTo-at f xs i d
 
-upTo-suc : {A : Type 0} (f : A → A) (xs : List A) (i : ℕ) (d : A) → i < length xs → set (upTo f i xs) i (f (getD xs i d)) ≡ upTo f (suc i) xs
+upTo-suc : {A : Type 0} (f : A → A) (xs : List A) (i : ℕ) (d : A) → i < length xs
+    → set (upTo f i xs) i (f (getD xs i d)) ≡ upTo f (suc i) xs
 upTo-suc f [] i d h = absurd (not-suc-le-zero h)
 upTo-suc f (x ∷ xs) zero d h = refl
 upTo-suc f (x ∷ xs) (suc i) d h = ap (λ l. f x ∷ l) (upTo-suc f xs i d (le-of-suc-le-suc h))
@@ -28,6 +29,7 @@ upTo-all f (x ∷ xs) zero h = absurd (not-suc-le-zero h)
 upTo-all f (x ∷ xs) (suc n) h = ap (λ l. f x ∷ l) (upTo-all f xs n (le-of-suc-le-suc h))
 
 -- one turn that stores f of the element
-pub stored : {A : Type 0} (f : A → A) (xs ys : List A) (i : ℕ) (d r : A) → ys ≡ upTo f i xs → i < length xs → r ≡ f (getD ys i d)
+pub stored : {A : Type 0} (f : A → A) (xs ys : List A) (i : ℕ) (d r : A) → ys ≡ upTo f i xs → i < length xs
+    → r ≡ f (getD ys i d)
     → set ys i r ≡ upTo f (i + 1) xs
 stored f xs ys i d r p h q = rw (q, p, upTo-at, add-one) (upTo-suc f xs i d h)

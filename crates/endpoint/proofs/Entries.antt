@@ -28,8 +28,10 @@ in-row t z s r K.RefreshGo = r .4
 in-row t z s r K.Refresh = r .5
 in-row t z s r K.Disconnect = r .6
 
-pub by-rows : (t : List Next) (z : Next) → Row t z Close → Row t z Starting → Row t z EstablishPending → Row t z Establish
-    → Row t z ParamVerify → Row t z RefreshPending → Row t z Refresh → Row t z Terminate → (s : State) (k : Command) → Entry t z s k
+pub by-rows : (t : List Next) (z : Next) → Row t z Close → Row t z Starting → Row t z EstablishPending
+    → Row t z Establish
+    → Row t z ParamVerify → Row t z RefreshPending → Row t z Refresh → Row t z Terminate → (s : State) (k : Command)
+    → Entry t z s k
 by-rows t z a b c d e f g h Close = in-row t z Close a
 by-rows t z a b c d e f g h Starting = in-row t z Starting b
 by-rows t z a b c d e f g h EstablishPending = in-row t z EstablishPending c

@@ -7,10 +7,12 @@ use Rattle.endpoint.specs.Time.{span}
 together : (n m : ℕ) → m < 65536 → (65536 * n + m) % span ≡ 65536 * (n % 4294967296) + m
 together n m h = omega arith
 
-carry : (a b : ℕ) → 65536 ≤ a % 65536 + b % 65536 → a + b ≡ 65536 * (a / 65536 + b / 65536 + 1) + (a % 65536 + b % 65536) % 65536
+carry : (a b : ℕ) → 65536 ≤ a % 65536 + b % 65536
+    → a + b ≡ 65536 * (a / 65536 + b / 65536 + 1) + (a % 65536 + b % 65536) % 65536
 carry a b h = omega arith
 
-plain : (a b : ℕ) → a % 65536 + b % 65536 < 65536 → a + b ≡ 65536 * (a / 65536 + b / 65536) + (a % 65536 + b % 65536) % 65536
+plain : (a b : ℕ) → a % 65536 + b % 65536 < 65536
+    → a + b ≡ 65536 * (a / 65536 + b / 65536) + (a % 65536 + b % 65536) % 65536
 plain a b h = omega arith
 
 small : (n : ℕ) → n % 65536 < 65536

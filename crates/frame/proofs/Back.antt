@@ -93,11 +93,13 @@ module _ (a : List ℕ) (r : Bytes a) where
   word-lt k = omega (arith, byte-at r k, byte-at r (k + 1), byte-at r (k + 2), byte-at r (k + 3))
 
   rebuilt : (m : ℕ)
-      → take 4 a ++ (take 4 (drop 4 a) ++ (take 4 (drop 8 a) ++ (take 4 (drop 12 a) ++ (take 4 (drop 16 a) ++ take m (drop 20 a)))))
+      → take 4 a ++ (take 4 (drop 4 a) ++
+      (take 4 (drop 8 a) ++ (take 4 (drop 12 a) ++ (take 4 (drop 16 a) ++ take m (drop 20 a)))))
       ≡ take (4 + (4 + (4 + (4 + (4 + m))))) a
   rebuilt m = sym (simp (take-add, drop-drop))
 
-  module _ (long : 28 ≤ length a) (c : hasCheckWord a ≡ true) (g : isFormed (wordAt a 0) (wordAt a 16) (fieldsIn a) ≡ true) where
+  module _ (long : 28 ≤ length a) (c : hasCheckWord a ≡ true)
+      (g : isFormed (wordAt a 0) (wordAt a 16) (fieldsIn a) ≡ true) where
     control-back : controlOf (fieldsIn a) ≡ wordAt a 0
     control-back = sym (eqb-true _ _ (and-left (eqb (wordAt a 0) (controlOf (fieldsIn a))) _ g))
 
@@ -106,7 +108,8 @@ module _ (a : List ℕ) (r : Bytes a) where
 
     reserved-zero : wordAt a 16 ≡ 0
     reserved-zero =
-        eqb-true (wordAt a 16) 0 (and-right (hasForm (fieldsIn a)) _ (and-right (eqb (wordAt a 0) (controlOf (fieldsIn a))) _ g))
+        eqb-true (wordAt a 16) 0
+        (and-right (hasForm (fieldsIn a)) _ (and-right (eqb (wordAt a 0) (controlOf (fieldsIn a))) _ g))
 
     pub typed : (fieldsIn a .connection < 2 ^ 32) × (fieldsIn a .baseline < 65536) × (fieldsIn a .timestamp < 2 ^ 48)
         × SessionFits (fieldsIn a .session)
@@ -121,7 +124,8 @@ module _ (a : List ℕ) (r : Bytes a) where
     body : List ℕ
     body = take (length a - 24) (drop 20 a)
 
-    same-words : headBytes (controlOf (fieldsIn a)) (fieldsIn a .connection) (timeOf (fieldsIn a)) (carryOf (fieldsIn a)) body
+    same-words : headBytes (controlOf (fieldsIn a)) (fieldsIn a .connection) (timeOf (fieldsIn a))
+        (carryOf (fieldsIn a)) body
         ≡ headBytes (wordAt a 0) (wordAt a 4) (wordAt a 8) (wordAt a 12) body
     unfolding fieldsIn body
     same-words =
@@ -145,7 +149,8 @@ module _ (a : List ℕ) (r : Bytes a) where
         let e = same-words ∙ words-back in
         (λ i. e i ++ wordBytes (crc (e i)))
         ∙ ap (λ (v : ℕ). take k a ++ wordBytes v) (eqb-true _ _ c)
-        ∙ ap (λ (l : List ℕ). take k a ++ l) (word-back k (omega arith) ∙ take-all 4 (drop k a) (rw length-drop (omega arith)))
+        ∙ ap (λ (l : List ℕ). take k a ++ l)
+        (word-back k (omega arith) ∙ take-all 4 (drop k a) (rw length-drop (omega arith)))
         ∙ take-append-drop k a
 
 -- ---- both copies
@@ -163,7 +168,8 @@ module _ (s : List ℕ) (r : Bytes s) where
       ∙ ap (λ (k : ℕ). slice 20 k (take n s)) e
       ∙ ap (drop 20) (take-take (length (take n s) - 4) n s (omega arith))
 
-  pub back : (f : Fields) (start end : ℕ) → readingOf s ≡ Frame f start end → Writable f (slice start end s) × (frameBytes f (slice start end s) ≡ s)
+  pub back : (f : Fields) (start end : ℕ) → readingOf s ≡ Frame f start end → Writable f (slice start end s)
+      × (frameBytes f (slice start end s) ≡ s)
   unfolding readingOf frameBytes twice isWritable Written
   back f start end h =
       let n : ℕ = length s / 2 in
@@ -184,7 +190,8 @@ module _ (s : List ℕ) (r : Bytes s) where
           session = t .3;
           bytes = take-bytes (length a - 24) (drop-bytes 20 (take-bytes n r));
         };
-        formed = both (form a (take-bytes n r) long (q .checked) (q .formed)) (both (lt-ltb _ _ (t .2)) (both (le-leb 4 (length b) (omega arith))
+        formed = both (form a (take-bytes n r) long (q .checked) (q .formed))
+            (both (lt-ltb _ _ (t .2)) (both (le-leb 4 (length b) (omega arith))
             (both (le-leb (length b) 100 (omega arith)) (eq-eqb (length b % 4) 0 (omega arith)))));
       } in
       let k : b ≡ slice start end s =

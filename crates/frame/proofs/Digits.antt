@@ -74,7 +74,8 @@ session-lt : (s : Session) → SessionFits s → sessionBits s < 131072
 session-lt Absent h = omega arith
 session-lt (Number n) h = omega arith
 
-session-of-bits : (v : ℕ) (s : Session) → SessionFits s → v % 131072 ≡ sessionBits s → sessionOf (bit 16 v) (v % 65536) ≡ s
+session-of-bits : (v : ℕ) (s : Session) → SessionFits s → v % 131072 ≡ sessionBits s
+    → sessionOf (bit 16 v) (v % 65536) ≡ s
 unfolding digit
 session-of-bits v Absent h e = ap (λ (b : Bool). sessionOf b (v % 65536)) (bit-digit 16 v false (omega arith))
 session-of-bits v (Number n) h e =
@@ -84,7 +85,8 @@ session-of-bits v (Number n) h e =
 
 -- ---- CTRL: its parts are digits of one number
 record Parts (v : ℕ) (f : Fields) : Type 0 where
-  sum : v ≡ 16777216 * codeOf (f .command) + (8388608 * digit (f .ack) + (4194304 * digit (f .busy) + (2097152 * digit (f .error)
+  sum : v ≡ 16777216 * codeOf (f .command) +
+      (8388608 * digit (f .ack) + (4194304 * digit (f .busy) + (2097152 * digit (f .error)
       + (1048576 * digit (f .sequence) + (262144 * digit (f .application) + sessionBits (f .session))))))
   code : codeOf (f .command) ≤ 255
   ack : digit (f .ack) ≤ 1
@@ -97,7 +99,14 @@ record Parts (v : ℕ) (f : Fields) : Type 0 where
 parts : (f : Fields) → SessionFits (f .session) → Parts (controlOf f) f
 unfolding controlOf
 parts f h = record {
-  sum = rw (flag-digit (f .ack), flag-digit (f .busy), flag-digit (f .error), flag-digit (f .sequence), flag-digit (f .application));
+  sum = rw (
+    flag-digit (f .ack),
+    flag-digit (f .busy),
+    flag-digit (f .error),
+    flag-digit (f .sequence),
+    flag-digit
+        (f .application),
+  );
   code = code-le (f .command);
   ack = digit-le (f .ack);
   busy = digit-le (f .busy);

@@ -54,7 +54,8 @@ can-be-written f n h =
     }
 
 -- ---- what is written
-pub length-head : (control cid time cc : ℕ) (body : List ℕ) → length (headBytes control cid time cc body) ≡ 20 + length body
+pub length-head : (control cid time cc : ℕ) (body : List ℕ)
+    → length (headBytes control cid time cc body) ≡ 20 + length body
 unfolding headBytes
 length-head control cid time cc body = omega arith
 
@@ -62,7 +63,8 @@ pub length-sub : (f : Fields) (body : List ℕ) → length (subBytes f body) ≡
 unfolding subBytes withCheckWord
 length-sub f body =
     let h = headBytes (controlOf f) (f .connection) (timeOf f) (carryOf f) body in
-    length-append h (wordBytes (crc h)) ∙ omega (arith, length-head (controlOf f) (f .connection) (timeOf f) (carryOf f) body)
+    length-append h (wordBytes (crc h))
+    ∙ omega (arith, length-head (controlOf f) (f .connection) (timeOf f) (carryOf f) body)
 
 pub length-frame : (f : Fields) (body : List ℕ) → length (frameBytes f body) ≡ 48 + 2 * length body
 unfolding frameBytes twice

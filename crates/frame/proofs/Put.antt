@@ -27,7 +27,8 @@ pub put-over : (o bytes : List ℕ) → put o 0 bytes ≡ over bytes o
 unfolding put over
 put-over o bytes = rw zero-add
 
-put-put : (o : List ℕ) (k : ℕ) (a b : List ℕ) (m : ℕ) → m ≡ k + length a → m ≤ length o → put (put o k a) m b ≡ put o k (a ++ b)
+put-put : (o : List ℕ) (k : ℕ) (a b : List ℕ) (m : ℕ) → m ≡ k + length a → m ≤ length o
+    → put (put o k a) m b ≡ put o k (a ++ b)
 unfolding put
 put-put o k a b m e h =
     let p : List ℕ = take k o ++ a in
@@ -78,7 +79,8 @@ unfolding twice withCheckWord
 copies o s n w l h e₁ ew e₂ e₃ e₄ =
     let k : w ≡ crc s = ew ∙ ap (λ (x : List ℕ). crc (take n x)) e₁ ∙ ap crc (front o s n l) in
     let l₂ : length (s ++ wordBytes w) ≡ n + 4 = length-append s (wordBytes w) ∙ ap (λ (x : ℕ). x + 4) l in
-    let l₃ : length (s ++ wordBytes w ++ s) ≡ n + 4 + n = length-append (s ++ wordBytes w) s ∙ ap₂ (λ (x y : ℕ). x + y) l₂ l in
+    let l₃ : length (s ++ wordBytes w ++ s) ≡ n + 4 + n = length-append (s ++ wordBytes w) s
+    ∙ ap₂ (λ (x y : ℕ). x + y) l₂ l in
     let f₂ = then o 0 s (wordBytes w) n e₁ e₂ (omega arith) (omega arith) in
     let f₃ = then o 0 (s ++ wordBytes w) s (n + 4) f₂ e₃ (omega arith) (omega arith) in
     let f₄ = then o 0 (s ++ wordBytes w ++ s) (wordBytes w) (n + 4 + n) f₃ e₄ (omega arith) (omega arith) in

@@ -21,12 +21,14 @@ use Rattle.frame.proofs.Back.{back}
 -- what was read of equal bytes is equal
 only : (f g : Fields) (b c : List ℕ) → Writable f b → Writable g c → frameBytes f b ≡ frameBytes g c → (f ≡ g) × (b ≡ c)
 only f g b c w x e =
-    let r : Frame f 20 (20 + length b) ≡ Frame g 20 (20 + length c) = sym (reads f b w) ∙ ap readingOf e ∙ reads g c x in
+    let r : Frame f 20 (20 + length b) ≡ Frame g 20 (20 + length c) = sym (reads f b w) ∙ ap readingOf e
+    ∙ reads g c x in
     let m : 20 + length b ≡ 20 + length c = cc in
     (cc, sym (body-lies f b w) ∙ (λ i. slice 20 (m i) (e i)) ∙ body-lies g c x)
 
 -- ---- what was written over an output's front is its front
-module _ (f : Fields) (body out out′ : List ℕ) (count : ℕ) (t : Typed f body) (w : WriteSays f body out out′ count) (some : 0 < count) where
+module _ (f : Fields) (body out out′ : List ℕ) (count : ℕ) (t : Typed f body) (w : WriteSays f body out out′ count)
+    (some : 0 < count) where
   test : Bool
   test = isWritable f (length body) && leb (48 + 2 * length body) (length out)
 

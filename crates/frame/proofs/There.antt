@@ -27,7 +27,8 @@ word-end : (s : List ℕ) (v n : ℕ) → n ≡ length s → wordAt (s ++ wordBy
 word-end s v n e =
     ap (wordAt (s ++ wordBytes v)) e
     ∙ (λ i. wordOf (getD-append-seam s (v / 16777216) (v / 65536 % 256 ∷ (v / 256 % 256 ∷ (v % 256 ∷ []))) 0 i)
-    (getD-append-add s (wordBytes v) 1 0 i) (getD-append-add s (wordBytes v) 2 0 i) (getD-append-add s (wordBytes v) 3 0 i))
+    (getD-append-add s (wordBytes v) 1 0 i) (getD-append-add s (wordBytes v) 2 0 i)
+    (getD-append-add s (wordBytes v) 3 0 i))
     ∙ of-word v
 
 front-of : (b x y : List ℕ) → take (length b) ((b ++ x) ++ y) ≡ b
@@ -72,7 +73,8 @@ module _ (f : Fields) (body : List ℕ) (w : Writable f body) where
   fields = (λ i. fieldsOf (w0 i) (w4 i) (w8 i) (w12 i)) ∙ fields-of-words f (w .typed .session) (w .typed .baseline)
 
   formed : isFormed (wordAt sub 0) (wordAt sub 16) (fieldsIn sub) ≡ true
-  formed = (λ i. isFormed (w0 i) (w16 i) (fields i)) ∙ both (eq-eqb (controlOf f) (controlOf f) refl) (both (can .form) refl)
+  formed = (λ i. isFormed (w0 i) (w16 i) (fields i))
+      ∙ both (eq-eqb (controlOf f) (controlOf f) refl) (both (can .form) refl)
 
   checked : hasCheckWord sub ≡ true
   unfolding sub subBytes

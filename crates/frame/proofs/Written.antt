@@ -12,7 +12,8 @@ use Rattle.frame.proofs.Lengths.{length-frame}
 use Rattle.frame.proofs.Put.{put-over}
 
 module _ (f : Fields) (body out : List ℕ) where
-  pub nothing : (isWritable f (length body) && leb (48 + 2 * length body) (length out)) ≡ false → WriteSays f body out out 0
+  pub nothing : (isWritable f (length body) && leb (48 + 2 * length body) (length out)) ≡ false
+      → WriteSays f body out out 0
   unfolding writtenOf over
   nothing h = record { counted = rw h; left = rw h }
 

@@ -36,7 +36,8 @@ pub record RunInv (c : Clocks) (sm ss : Settings) (l : Link) : Type 0 where
 
 module _ (c : Clocks) (sm ss : Settings) (p : Paired sm ss) where
   -- time passes
-  linked-later : {now : ℕ} {log : List Entry} {em es : Endpoint} {tm ts : ℕ} (m : ℕ) → now ≤ m → Linked c sm ss now log em es tm ts
+  linked-later : {now : ℕ} {log : List Entry} {em es : Endpoint} {tm ts : ℕ} (m : ℕ) → now ≤ m
+      → Linked c sm ss now log em es tm ts
       → Linked c sm ss m log em es tm ts
   linked-later m h L = record {
     master = L .master;
@@ -50,7 +51,8 @@ module _ (c : Clocks) (sm ss : Settings) (p : Paired sm ss) where
   }
 
   -- ---- what a call adds to the shows
-  quiet : (log : List Entry) (tm ts : ℕ) (shows : List Show) → ShowsInv sm ss log tm ts shows → ShowsInv sm ss log tm ts (shows ++ [])
+  quiet : (log : List Entry) (tm ts : ℕ) (shows : List Show) → ShowsInv sm ss log tm ts shows
+      → ShowsInv sm ss log tm ts (shows ++ [])
   quiet log tm ts shows v = subst (ShowsInv sm ss log tm ts) (sym (append-nil shows)) v
 
   bound-m : sm .age + (sm .interval + sm .roundtrip) ≡ boundOf sm
@@ -60,34 +62,46 @@ module _ (c : Clocks) (sm ss : Settings) (p : Paired sm ss) where
   bound-s = ap (λ (b : Bool). ss .age + (ss .interval + cond b 0 (ss .roundtrip))) (sym (p .slave))
 
   -- a show at the master, and at the slave
-  shows-m : (log : List Entry) (em es : Endpoint) (tm ts t : ℕ) (shows : List Show) → t ≤ clockLimit → Linked c sm ss (t + c .master) log em es tm ts
+  shows-m : (log : List Entry) (em es : Endpoint) (tm ts t : ℕ) (shows : List Show) → t ≤ clockLimit
+      → Linked c sm ss (t + c .master) log em es tm ts
       → ShowsInv sm ss log tm ts shows
-      → ShowsInv sm ss log tm ts (shows ++ shownBy false (t + c .master) tm (length log) show (callOf em t show .endpoint))
+      → ShowsInv sm ss log tm ts
+      (shows ++ shownBy false (t + c .master) tm (length log) show (callOf em t show .endpoint))
   shows-m log em es tm ts t shows lim L v =
       bcase (isExpired em t) (λ x. rw x (quiet log tm ts shows v))
       (λ x. rw x (bcase (isFailSafe em) (λ f. rw f (quiet log tm ts shows v))
       (λ f. subst (λ (y : List Show). ShowsInv sm ss log tm ts (shows ++ y))
-      (sym (cond-false (isFailSafe em) [] (record { slave = false; moment = t + c .master; bytes = shownOf em; sent = tm; written = length log } ∷ []) f))
-      (add sm ss log tm ts shows (record { slave = false; moment = t + c .master; bytes = shownOf em; sent = tm; written = length log })
+      (sym (cond-false (isFailSafe em) []
+      (record { slave = false; moment = t + c .master; bytes = shownOf em; sent = tm; written = length log } ∷ [])
+      f))
+      (add sm ss log tm ts shows
+      (record { slave = false; moment = t + c .master; bytes = shownOf em; sent = tm; written = length log })
       (sent-by sm ss log false tm (t + c .master) (shownOf em) (L .honest)
-      (subst (λ (b : ℕ). ShownAt (marks log) 2 tm (t + c .master) b (shownOf em)) bound-m (shown-m c sm ss p t lim L x f))) refl v))))
+      (subst (λ (b : ℕ). ShownAt (marks log) 2 tm (t + c .master) b (shownOf em)) bound-m
+      (shown-m c sm ss p t lim L x f))) refl v))))
 
-  shows-s : (log : List Entry) (em es : Endpoint) (tm ts t : ℕ) (shows : List Show) → t ≤ clockLimit → Linked c sm ss (t + c .slave) log em es tm ts
+  shows-s : (log : List Entry) (em es : Endpoint) (tm ts t : ℕ) (shows : List Show) → t ≤ clockLimit
+      → Linked c sm ss (t + c .slave) log em es tm ts
       → ShowsInv sm ss log tm ts shows
-      → ShowsInv sm ss log tm ts (shows ++ shownBy true (t + c .slave) ts (length log) show (callOf es t show .endpoint))
+      → ShowsInv sm ss log tm ts
+      (shows ++ shownBy true (t + c .slave) ts (length log) show (callOf es t show .endpoint))
   shows-s log em es tm ts t shows lim L v =
       bcase (isExpired es t) (λ x. rw x (quiet log tm ts shows v))
       (λ x. rw x (bcase (isFailSafe es) (λ f. rw f (quiet log tm ts shows v))
       (λ f. subst (λ (y : List Show). ShowsInv sm ss log tm ts (shows ++ y))
-      (sym (cond-false (isFailSafe es) [] (record { slave = true; moment = t + c .slave; bytes = shownOf es; sent = ts; written = length log } ∷ []) f))
-      (add sm ss log tm ts shows (record { slave = true; moment = t + c .slave; bytes = shownOf es; sent = ts; written = length log })
+      (sym (cond-false (isFailSafe es) []
+      (record { slave = true; moment = t + c .slave; bytes = shownOf es; sent = ts; written = length log } ∷ []) f))
+      (add sm ss log tm ts shows
+      (record { slave = true; moment = t + c .slave; bytes = shownOf es; sent = ts; written = length log })
       (sent-by sm ss log true ts (t + c .slave) (shownOf es) (L .honest)
-      (subst (λ (b : ℕ). ShownAt (marks log) 0 ts (t + c .slave) b (shownOf es)) bound-s (shown-s c sm ss p t lim L x f))) refl v))))
+      (subst (λ (b : ℕ). ShownAt (marks log) 0 ts (t + c .slave) b (shownOf es)) bound-s
+      (shown-s c sm ss p t lim L x f))) refl v))))
 
   -- what a call adds to the shows, whatever the call; what it writes and takes comes after
   adds-m : (log : List Entry) (em es : Endpoint) (tm ts t : ℕ) (shows : List Show) (call : Call) → t ≤ clockLimit
       → Linked c sm ss (t + c .master) log em es tm ts → ShowsInv sm ss log tm ts shows
-      → ShowsInv sm ss log tm ts (shows ++ shownBy false (t + c .master) tm (length log) call (callOf em t call .endpoint))
+      → ShowsInv sm ss log tm ts
+      (shows ++ shownBy false (t + c .master) tm (length log) call (callOf em t call .endpoint))
   adds-m log em es tm ts t shows start lim L v = quiet log tm ts shows v
   adds-m log em es tm ts t shows (send value) lim L v = quiet log tm ts shows v
   adds-m log em es tm ts t shows (deliver f body) lim L v = quiet log tm ts shows v
@@ -97,7 +111,8 @@ module _ (c : Clocks) (sm ss : Settings) (p : Paired sm ss) where
 
   adds-s : (log : List Entry) (em es : Endpoint) (tm ts t : ℕ) (shows : List Show) (call : Call) → t ≤ clockLimit
       → Linked c sm ss (t + c .slave) log em es tm ts → ShowsInv sm ss log tm ts shows
-      → ShowsInv sm ss log tm ts (shows ++ shownBy true (t + c .slave) ts (length log) call (callOf es t call .endpoint))
+      → ShowsInv sm ss log tm ts
+      (shows ++ shownBy true (t + c .slave) ts (length log) call (callOf es t call .endpoint))
   adds-s log em es tm ts t shows start lim L v = quiet log tm ts shows v
   adds-s log em es tm ts t shows (send value) lim L v = quiet log tm ts shows v
   adds-s log em es tm ts t shows (deliver f body) lim L v = quiet log tm ts shows v
@@ -106,16 +121,19 @@ module _ (c : Clocks) (sm ss : Settings) (p : Paired sm ss) where
   adds-s log em es tm ts t shows show lim L v = shows-s log em es tm ts t shows lim L v
 
   -- ---- one event
-  step : (l : Link) (slave : Bool) (t : ℕ) (call : Call) → mayDeliver (l .log) call ≡ true → l .latest ≤ momentOf c slave t → t ≤ clockLimit
+  step : (l : Link) (slave : Bool) (t : ℕ) (call : Call) → mayDeliver (l .log) call ≡ true
+      → l .latest ≤ momentOf c slave t → t ≤ clockLimit
       → RunInv c sm ss l → RunInv c sm ss (afterEvent c l (record { slave = slave; clock = t; call = call }))
   step l false t call h k lim v =
       let L = linked-later (t + c .master) k (v .linked) in
       let A = at-master c sm ss p t lim L call h in
       record {
         linked = A .0;
-        shown = grow sm ss (l .log) (logged false (t + c .master) call (callOf (l .master) t call .writes)) (l .masterTook) (l .slaveTook)
+        shown = grow sm ss (l .log) (logged false (t + c .master) call (callOf (l .master) t call .writes))
+            (l .masterTook) (l .slaveTook)
             (tookBy (l .log) call (callOf (l .master) t call .answer) (l .masterTook)) (l .slaveTook)
-            (l .shows ++ shownBy false (t + c .master) (l .masterTook) (length (l .log)) call (callOf (l .master) t call .endpoint)) (A .1) (omega arith)
+            (l .shows ++ shownBy false (t + c .master) (l .masterTook) (length (l .log)) call
+            (callOf (l .master) t call .endpoint)) (A .1) (omega arith)
             (adds-m (l .log) (l .master) (l .slave) (l .masterTook) (l .slaveTook) t (l .shows) call lim L (v .shown));
       }
   step l true t call h k lim v =
@@ -123,9 +141,11 @@ module _ (c : Clocks) (sm ss : Settings) (p : Paired sm ss) where
       let A = at-slave c sm ss p t lim L call h in
       record {
         linked = A .0;
-        shown = grow sm ss (l .log) (logged true (t + c .slave) call (callOf (l .slave) t call .writes)) (l .masterTook) (l .slaveTook)
+        shown = grow sm ss (l .log) (logged true (t + c .slave) call (callOf (l .slave) t call .writes))
+            (l .masterTook) (l .slaveTook)
             (l .masterTook) (tookBy (l .log) call (callOf (l .slave) t call .answer) (l .slaveTook))
-            (l .shows ++ shownBy true (t + c .slave) (l .slaveTook) (length (l .log)) call (callOf (l .slave) t call .endpoint)) (omega arith) (A .1)
+            (l .shows ++ shownBy true (t + c .slave) (l .slaveTook) (length (l .log)) call
+            (callOf (l .slave) t call .endpoint)) (omega arith) (A .1)
             (adds-s (l .log) (l .master) (l .slave) (l .masterTook) (l .slaveTook) t (l .shows) call lim L (v .shown));
       }
 
@@ -134,21 +154,29 @@ module _ (c : Clocks) (sm ss : Settings) (p : Paired sm ss) where
   kept-allowed l [] h = h
   kept-allowed l (v ∷ vs) h = and-left (l .allowed) _ (kept-allowed (afterEvent c l v) vs h)
 
-  pub along : (l : Link) (vs : List Event) → afterAll c l vs .allowed ≡ true → RunInv c sm ss l → RunInv c sm ss (afterAll c l vs)
+  pub along : (l : Link) (vs : List Event) → afterAll c l vs .allowed ≡ true → RunInv c sm ss l
+      → RunInv c sm ss (afterAll c l vs)
   along l [] h r = r
   along l (v ∷ vs) h r =
       let m = momentOf c (v .slave) (v .clock) in
       let a = and-right (l .allowed) _ (kept-allowed (afterEvent c l v) vs h) in
       let b = and-right (mayDeliver (l .log) (v .call)) _ a in
       along (afterEvent c l v) vs h
-      (step l (v .slave) (v .clock) (v .call) (and-left (mayDeliver (l .log) (v .call)) _ a) (leb-true (l .latest) m (and-left (leb (l .latest) m) _ b))
+      (step l (v .slave) (v .clock) (v .call) (and-left (mayDeliver (l .log) (v .call)) _ a)
+      (leb-true (l .latest) m (and-left (leb (l .latest) m) _ b))
       (leb-true (v .clock) clockLimit (and-right (leb (l .latest) m) (leb (v .clock) clockLimit) b)) r)
 
   -- ---- two endpoints just loaded
-  nothing-yet : Inv (termsOf c sm ss) 0 (marks []) (record { nextOut = 0; nextIn = 0; held = 0; phase = restM }) (record { nextOut = 0; nextIn = 0; held = 0; phase = restS })
+  nothing-yet : Inv (termsOf c sm ss) 0 (marks []) (record { nextOut = 0; nextIn = 0; held = 0; phase = restM })
+      (record { nextOut = 0; nextIn = 0; held = 0; phase = restS })
   unfolding marks size
   nothing-yet = record {
-    log = record { stamped = λ i h. absurd (not-suc-le-zero h); rising = λ i j h k. absurd (not-suc-le-zero k); go = λ i h. absurd (not-suc-le-zero h) };
+    log = record {
+      stamped = λ i h. absurd (not-suc-le-zero h);
+      rising = λ i j h k. absurd (not-suc-le-zero k);
+      go =
+          λ i h. absurd (not-suc-le-zero h);
+    };
     master = record { out = λ i h. absurd (not-suc-le-zero h); held = tt; phase = tt };
     slave = record {
       replies = λ i h. absurd (not-suc-le-zero h);
@@ -174,27 +202,42 @@ module _ (c : Clocks) (sm ss : Settings) (p : Paired sm ss) where
         pend = λ h s e. absurd (false≢true h);
         ready = λ h e. absurd (false≢true h);
       };
-      relS = record { nextOut = refl; nextIn = refl; held = refl; live = λ h. absurd (false≢true h); ready = λ h. absurd (false≢true h) };
+      relS = record {
+        nextOut = refl;
+        nextIn = refl;
+        held = refl;
+        live = λ h. absurd (false≢true h);
+        ready = λ h.
+            absurd (false≢true h);
+      };
       honest = λ i h. absurd (not-suc-le-zero h);
       inv = nothing-yet;
     };
-    shown = record { its = λ i h. absurd (not-suc-le-zero h); below = λ i h. absurd (not-suc-le-zero h); order = λ i j h k. absurd (not-suc-le-zero k) };
+    shown = record {
+      its = λ i h. absurd (not-suc-le-zero h);
+      below = λ i h. absurd (not-suc-le-zero h);
+      order = λ i j
+          h k. absurd (not-suc-le-zero k);
+    };
   }
 
   -- ---- what the invariant says of the shows
   pub fresh-of : (l : Link) → RunInv c sm ss l → Fresh sm ss l
   fresh-of l r = record {
-    there = λ i h. let s = r .shown .its i h in let a = s .sent in let b = s .early in let n = s .known in (omega arith, omega arith, omega arith);
+    there = λ i h. let s = r .shown .its i h in let a = s .sent in let b = s .early in let n = s .known in
+        (omega arith, omega arith, omega arith);
     its-send = λ i k h e.
         let s = r .shown .its i h in
         let a = s .sent in
         let q : s .place ≡ k = omega arith in
-        subst (λ (n : ℕ). ItsSend (boundOf (cond (showAt (l .shows) i .slave) ss sm)) (showAt (l .shows) i) (entryAt (l .log) n)) q (s .fits);
+        subst (λ (n : ℕ). ItsSend (boundOf (cond (showAt (l .shows) i .slave) ss sm)) (showAt (l .shows) i)
+        (entryAt (l .log) n)) q (s .fits);
     in-order = r .shown .order;
   }
 
 pub age-theorem : AgeTheorem
-age-theorem sm ss c vs p h = fresh-of c sm ss p (afterAll c (begun sm ss) vs) (along c sm ss p (begun sm ss) vs h (at-first c sm ss p))
+age-theorem sm ss c vs p h = fresh-of c sm ss p (afterAll c (begun sm ss) vs)
+    (along c sm ss p (begun sm ss) vs h (at-first c sm ss p))
 
 pub silence : Silence
 silence sm ss c vs slave last p h before i k e =
@@ -202,7 +245,9 @@ silence sm ss c vs slave last p h before i k e =
     let r = along c sm ss p (begun sm ss) vs h (at-first c sm ss p) in
     let s = r .shown .its i k in
     let f = s .fits in
-    let m = before (s .place) (let a = s .early in let b = s .known in omega arith) (f .other ∙ ap not e) (f .refresh) in
+    let m = before (s .place) (let a = s .early in let b = s .known in omega arith) (f .other ∙ ap not e)
+    (f .refresh) in
     let y : showAt (l .shows) i .moment ≤ entryAt (l .log) (s .place) .moment + boundOf (cond slave ss sm) =
-    subst (λ (b : Bool). showAt (l .shows) i .moment ≤ entryAt (l .log) (s .place) .moment + boundOf (cond b ss sm)) e (f .young) in
+    subst (λ (b : Bool). showAt (l .shows) i .moment ≤ entryAt (l .log) (s .place) .moment + boundOf (cond b ss sm)) e
+    (f .young) in
     omega arith

@@ -34,16 +34,23 @@ minus-48 a b h k g = omega arith
 pub less-48 : (a b : ℕ) → a < span → b < span → a < b → minus a b + b ≡ a + span
 less-48 a b h k g = omega arith
 
-near-of : (cm r m2 s2 m : ℕ) → m2 < span → s2 < span → m ≤ m2 + cm → m2 + cm ≤ m + r → (s2 ≤ m2) ⊎ (m2 < s2) → Near cm r (minus m2 s2) s2 m
-near-of cm r m2 s2 m h k lo hi (inl g) = let e = minus-48 m2 s2 h k g in record { m2 = m2; turns = 0; few = omega arith; sum = omega (arith, e); low = lo; high = hi }
-near-of cm r m2 s2 m h k lo hi (inr g) = let e = less-48 m2 s2 h k g in record { m2 = m2; turns = 1; few = omega arith; sum = omega (arith, e); low = lo; high = hi }
+near-of : (cm r m2 s2 m : ℕ) → m2 < span → s2 < span → m ≤ m2 + cm → m2 + cm ≤ m + r → (s2 ≤ m2) ⊎ (m2 < s2)
+    → Near cm r (minus m2 s2) s2 m
+near-of cm r m2 s2 m h k lo hi (inl g) = let e = minus-48 m2 s2 h k g in record
+    { m2 = m2; turns = 0; few = omega arith; sum = omega (arith, e); low = lo; high = hi }
+near-of cm r m2 s2 m h k lo hi (inr g) = let e = less-48 m2 s2 h k g in record
+    { m2 = m2; turns = 1; few = omega arith; sum = omega (arith, e); low = lo; high = hi }
 
-pub offset-near : (cm r m3 baseline s2 m : ℕ) → m3 < span → s2 < span → baseline ≤ m3 → m ≤ m3 - baseline + cm → m3 - baseline + cm ≤ m + r → Near cm r (minus (minus m3 baseline) s2) s2 m
-offset-near cm r m3 baseline s2 m h k g lo hi = let e : minus m3 baseline ≡ m3 - baseline = minus-48 m3 baseline h (omega arith) g in rw e (near-of cm r (m3 - baseline) s2 m (omega arith) k lo hi (le-or-lt s2 (m3 - baseline)))
+pub offset-near : (cm r m3 baseline s2 m : ℕ) → m3 < span → s2 < span → baseline ≤ m3 → m ≤ m3 - baseline + cm
+    → m3 - baseline + cm ≤ m + r → Near cm r (minus (minus m3 baseline) s2) s2 m
+offset-near cm r m3 baseline s2 m h k g lo hi = let e : minus m3 baseline ≡ m3 - baseline = minus-48 m3 baseline h
+    (omega arith) g in rw e (near-of cm r (m3 - baseline) s2 m (omega arith) k lo hi (le-or-lt s2 (m3 - baseline)))
 
 -- the slave's estimate of the master's time at moment m′
-pub estimate : (cm r k o s2 m t m′ : ℕ) → Near cm r o s2 m → s2 ≤ t → Pace k s2 m t m′ → m′ + r + k < cm + span → (m′ ≤ (t + o) % span + cm + k) × ((t + o) % span + cm ≤ m′ + r + k)
-estimate cm r k o s2 m t m′ n b p h = let d = n .m2 + (t - s2) in let e : (t + o) % span ≡ d = residue (t + o) (n .turns) d (omega arith) (omega arith) in rw e (omega arith, omega arith)
+pub estimate : (cm r k o s2 m t m′ : ℕ) → Near cm r o s2 m → s2 ≤ t → Pace k s2 m t m′ → m′ + r + k < cm + span
+    → (m′ ≤ (t + o) % span + cm + k) × ((t + o) % span + cm ≤ m′ + r + k)
+estimate cm r k o s2 m t m′ n b p h = let d = n .m2 + (t - s2) in let e : (t + o) % span ≡ d = residue (t + o)
+    (n .turns) d (omega arith) (omega arith) in rw e (omega arith, omega arith)
 
 -- an age as reckoned passes: ahead within the allowance, or not above the age
 pub record Young (x ahead age : ℕ) : Type 0 where
@@ -51,17 +58,24 @@ pub record Young (x ahead age : ℕ) : Type 0 where
   pub late : x < 2 ^ 47 → x ≤ age
 
 -- the master's reckoning of a stamp at most r ahead
-pub lapse-master : (t s r a : ℕ) → t ≤ span - 65537 → s < span → r ≤ 65535 → s ≤ t + r → Young (minus (t % span) s) r a → t ≤ s + a
-lapse-master t s r a h k g d y = ⊎-elim (λ p. omega arith) (λ p. let e : minus (t % span) s ≡ t - s = omega arith in let y′ : Young (t - s) r a = rw e at y in ⊎-elim (λ q. let z = y′ .early q in omega arith) (λ q. let z = y′ .late q in omega arith) (le-or-lt (2 ^ 47) (t - s))) (le-or-lt t s)
+pub lapse-master : (t s r a : ℕ) → t ≤ span - 65537 → s < span → r ≤ 65535 → s ≤ t + r
+    → Young (minus (t % span) s) r a → t ≤ s + a
+lapse-master t s r a h k g d y = ⊎-elim (λ p. omega arith)
+    (λ p. let e : minus (t % span) s ≡ t - s = omega arith in let y′ : Young (t - s) r a = rw e at y in ⊎-elim
+    (λ q. let z = y′ .early q in omega arith) (λ q. let z = y′ .late q in omega arith) (le-or-lt (2 ^ 47) (t - s)))
+    (le-or-lt t s)
 
 pub young-more : (x a a′ g : ℕ) → a ≤ a′ → Young x a g → Young x a′ g
 young-more x a a′ g h y = record { early = λ q. let z = y .early q in omega arith; late = y .late }
 
 -- a slave's reckoning of a stamp that is past, and not by half a turn; it allows k ahead
-pub lapse-slave : (cm r k o s2 m t m′ s a : ℕ) → Near cm r o s2 m → s2 ≤ t → Pace k s2 m t m′ → s < span → s + cm ≤ m′ → m′ + r + k < s + cm + 2 ^ 47 → Young (minus ((t + o) % span) s) k a → m′ ≤ s + cm + a + k
+pub lapse-slave : (cm r k o s2 m t m′ s a : ℕ) → Near cm r o s2 m → s2 ≤ t → Pace k s2 m t m′ → s < span → s + cm ≤ m′
+    → m′ + r + k < s + cm + 2 ^ 47 → Young (minus ((t + o) % span) s) k a → m′ ≤ s + cm + a + k
 lapse-slave cm r k o s2 m t m′ s a n b p h g w y = ⊎-elim
     (λ l. let d = n .m2 + (t - s2) - s in
-    let e : minus ((t + o) % span) s ≡ d = ap (λ (z : ℕ). ((t + o) % span + (span - z)) % span) (mod-eq-of-lt h) ∙ (mod-add-mod (t + o) span (span - s) ∙ residue (t + o + (span - s)) (n .turns + 1) d (omega arith) (omega arith)) in
+    let e : minus ((t + o) % span) s ≡ d = ap (λ (z : ℕ). ((t + o) % span + (span - z)) % span) (mod-eq-of-lt h)
+    ∙ (mod-add-mod (t + o) span (span - s)
+    ∙ residue (t + o + (span - s)) (n .turns + 1) d (omega arith) (omega arith)) in
     let y′ : Young d k a = rw e at y in
     let z = y′ .late (omega arith) in omega arith)
     (λ l. omega arith)

@@ -37,7 +37,8 @@ use Rattle.link.proofs.Entries.{marks-snoc, size-marks, at-marks, hones
 use Rattle.link.proofs.Shown.{ShownAt, in-refresh, is-taken, shown-is}
 use Rattle.link.proofs.Codes.{go-due, go-baseline, request-not-refresh, setup-not-refresh, refresh-not-setup, pending-setup}
 
-module _ (c : Clocks) (sm ss : Settings) (p : Paired sm ss) {l : List Entry} {em es : Endpoint} {tm ts : ℕ} (t : ℕ) (lim : t ≤ clockLimit)
+module _ (c : Clocks) (sm ss : Settings) (p : Paired sm ss) {l : List Entry} {em es : Endpoint} {tm ts : ℕ} (t : ℕ)
+    (lim : t ≤ clockLimit)
     (L : Linked c sm ss (t + c .master) l em es tm ts) where
   T : Terms
   T = termsOf c sm ss
@@ -59,7 +60,13 @@ module _ (c : Clocks) (sm ss : Settings) (p : Paired sm ss) {l : List Entry} {em
   rest e s o i r n k =
       let q = L .relM in
       record {
-        master = record { nextOut = L .master .nextOut; nextIn = L .master .nextIn; held = L .master .held; phase = restM };
+        master = record {
+          nextOut = L .master .nextOut;
+          nextIn = L .master .nextIn;
+          held = L .master .held;
+          phase =
+              restM;
+        };
         slave = L .slave;
         setM = s;
         setS = L .setS;
@@ -122,20 +129,27 @@ module _ (c : Clocks) (sm ss : Settings) (p : Paired sm ss) {l : List Entry} {em
     above-t : topOf (em .timestamps .sent) ≤ t
     above-t = let z = above-top (em .timestamps .sent) (timeOf em t) (d .above) in let y = time in omega arith
 
-    asked-mark : markOf asking ≡ mark 0 (codeOf (requestOf (em .state))) t (baselineOf (requestOf (em .state)) t (em .setup .measured)) (t + c .master) (setupData (em .settings) (requestOf (em .state)))
-    asked-mark = λ i. mark 0 (codeOf (requestOf (em .state))) (time i) (baselineOf (requestOf (em .state)) t (em .setup .measured)) (t + c .master) (setupData (em .settings) (requestOf (em .state)))
+    asked-mark : markOf asking ≡ mark 0 (codeOf (requestOf (em .state))) t
+        (baselineOf (requestOf (em .state)) t (em .setup .measured)) (t + c .master)
+        (setupData (em .settings) (requestOf (em .state)))
+    asked-mark = λ i. mark 0 (codeOf (requestOf (em .state))) (time i)
+        (baselineOf (requestOf (em .state)) t (em .setup .measured)) (t + c .master)
+        (setupData (em .settings) (requestOf (em .state)))
 
     asked-honest : Honest asking
     asked-honest = record { writer = refl; value = λ h. absurd (true≢false (sym h ∙ request-not-refresh (em .state))) }
 
     go-asked : codeOf (requestOf (em .state)) ≡ 254
-        → Has (GoOf (termsOf c sm ss) (marks l) (mark 0 (codeOf (requestOf (em .state))) t (baselineOf (requestOf (em .state)) t (em .setup .measured)) (t + c .master) (setupData (em .settings) (requestOf (em .state))))) (marks l)
+        → Has (GoOf (termsOf c sm ss) (marks l)
+        (mark 0 (codeOf (requestOf (em .state))) t (baselineOf (requestOf (em .state)) t (em .setup .measured))
+        (t + c .master) (setupData (em .settings) (requestOf (em .state))))) (marks l)
     go-asked h =
         let k = go-due (em .state) h in
         let g = L .relM .ready k (d .idle) in
         let b = go-baseline t (em .setup .measured) (em .state) k in
         let u = setup-timer em t x (d .setup) in
-        let r : em .settings .roundtrip ≤ 65535 = subst (λ (s : Settings). s .roundtrip ≤ 65535) (sym (L .setM)) (p .ticksM .roundtrip) in
+        let r : em .settings .roundtrip ≤ 65535 = subst (λ (s : Settings). s .roundtrip ≤ 65535) (sym (L .setM))
+        (p .ticksM .roundtrip) in
         let i = g .since in
         let o = L .relM .nextOut in
         let a = above-t in
@@ -147,22 +161,32 @@ module _ (c : Clocks) (sm ss : Settings) (p : Paired sm ss) {l : List Entry} {em
     requested-m =
         let q = L .relM in
         let n = setup-not-refresh (em .state) (d .setup) in
-        wrote (requestedOf em t) asking (codeOf (requestOf (em .state))) (baselineOf (requestOf (em .state)) t (em .setup .measured))
-        (setupData (em .settings) (requestOf (em .state))) (asked (codeOf (requestOf (em .state))) t) (L .setM) asked-mark asked-honest
+        wrote (requestedOf em t) asking (codeOf (requestOf (em .state)))
+        (baselineOf (requestOf (em .state)) t (em .setup .measured))
+        (setupData (em .settings) (requestOf (em .state))) (asked (codeOf (requestOf (em .state))) t) (L .setM)
+        asked-mark asked-honest
         above-t go-asked refl
         (record {
           nextOut = ap suc time;
           nextIn = q .nextIn;
           held = q .held;
           live = λ h. absurd (true≢false (sym h ∙ n));
-          pend = λ h s e. let z : s ≡ t = (let y : timeOf em t ≡ s = cc in sym y ∙ time) in record { since = z; phase = ap (asked (codeOf (requestOf (em .state)))) (sym z) };
+          pend = λ h s e. let z : s ≡ t = (let y : timeOf em t ≡ s = cc in sym y ∙ time) in record
+              { since = z; phase = ap (asked (codeOf (requestOf (em .state)))) (sym z) };
           ready = λ h e. let z : _≡_ {A = ℕ} 0 1 = cc in absurd (omega arith);
         })
 
   -- S-Refresh with the lent value
   module _ (value : List ℕ) (d : RefreshSent em t value) where
     abbrev pub refreshing : Entry
-    refreshing = record { slave = false; moment = t + c .master; fields = refreshFields em t; body = value; lent = value }
+    refreshing = record {
+      slave = false;
+      moment = t + c .master;
+      fields = refreshFields em t;
+      body = value;
+      lent =
+          value;
+    }
 
     refresh-mark : markOf refreshing ≡ mark 0 255 t 0 (t + c .master) value
     refresh-mark = λ i. mark (cond (role i) 2 0) 255 (time i) 0 (t + c .master) value
@@ -170,7 +194,8 @@ module _ (c : Clocks) (sm ss : Settings) (p : Paired sm ss) {l : List Entry} {em
     refresh-above : topOf (em .timestamps .sent) ≤ t
     refresh-above = let z = above-top (em .timestamps .sent) (timeOf em t) (d .above) in let y = time in omega arith
 
-    live-again : (f : MPhase) (v : Option (List ℕ)) → f ≡ liveM (em .since) v → MPh (termsOf c sm ss) (marks l) (L .master .nextOut) (L .master .held) f
+    live-again : (f : MPhase) (v : Option (List ℕ)) → f ≡ liveM (em .since) v
+        → MPh (termsOf c sm ss) (marks l) (L .master .nextOut) (L .master .held) f
         → MPh (termsOf c sm ss) (marks l) (suc t) (L .master .held) f
     live-again f v e h =
         subst (MPh (termsOf c sm ss) (marks l) (suc t) (L .master .held)) (sym e)
@@ -242,7 +267,8 @@ module _ (c : Clocks) (sm ss : Settings) (p : Paired sm ss) {l : List Entry} {em
       not-refresh : is (f .command) K.Refresh ≡ false
       not-refresh = ap (λ (q : Command). is q K.Refresh) due ∙ request-not-refresh (em .state)
 
-      confirmed : (s : State) → em .state ≡ s → isSetup s ≡ true → Linked c sm ss (t + c .master) l (confirmedOf em t) es tm ts
+      confirmed : (s : State) → em .state ≡ s → isSetup s ≡ true
+          → Linked c sm ss (t + c .master) l (confirmedOf em t) es tm ts
       confirmed Close e h = absurd (false≢true h)
       confirmed Starting e h = rest (confirmedOf em t) (L .setM) refl refl (rw e) (λ z. refl) (rw e)
       confirmed EstablishPending e h = rest (confirmedOf em t) (L .setM) refl refl (rw e) (λ z. refl) (rw e)
@@ -255,12 +281,20 @@ module _ (c : Clocks) (sm ss : Settings) (p : Paired sm ss) {l : List Entry} {em
           let i = a .since in
           let s2 : confirmedOf em t .state ≡ RefreshPending = rw e in
           let m2 : confirmedOf em t .setup .measured ≡ t = rw e in
-          let ph : L .master .phase ≡ asked 252 (f .timestamp) = a .phase ∙ ap (λ (y : State). asked (codeOf (requestOf y)) (f .timestamp)) e in
-          let w1 : at (marks l) k .who ≡ 1 = ap (λ (y : Mark). y .who) (the-mark f body l k g) ∙ who-is false not-refresh in
-          let w2 : at (marks l) k .code ≡ 252 = ap (λ (y : Mark). y .code) (the-mark f body l k g) ∙ ap codeOf due ∙ ap (λ (y : State). codeOf (requestOf y)) e in
+          let ph : L .master .phase ≡ asked 252 (f .timestamp) = a .phase
+          ∙ ap (λ (y : State). asked (codeOf (requestOf y)) (f .timestamp)) e in
+          let w1 : at (marks l) k .who ≡ 1 = ap (λ (y : Mark). y .who) (the-mark f body l k g)
+          ∙ who-is false not-refresh in
+          let w2 : at (marks l) k .code ≡ 252 = ap (λ (y : Mark). y .code) (the-mark f body l k g) ∙ ap codeOf due
+          ∙ ap (λ (y : State). codeOf (requestOf y)) e in
           let w3 : at (marks l) k .stamp ≡ f .timestamp = ap (λ (y : Mark). y .stamp) (the-mark f body l k g) in
           record {
-            master = record { nextOut = L .master .nextOut; nextIn = L .master .nextIn; held = L .master .held; phase = got t };
+            master = record {
+              nextOut = L .master .nextOut;
+              nextIn = L .master .nextIn;
+              held = L .master .held;
+              phase = got t;
+            };
             slave = L .slave;
             setM = L .setM;
             setS = L .setS;
@@ -274,13 +308,19 @@ module _ (c : Clocks) (sm ss : Settings) (p : Paired sm ss) {l : List Entry} {em
             };
             relS = L .relS;
             honest = L .honest;
-            inv = m-got (termsOf c sm ss) (small-of c sm ss p) t (f .timestamp) k ph (omega arith) (omega arith) (in-log f body l k g) w1 w2 w3 (L .inv);
+            inv = m-got (termsOf c sm ss) (small-of c sm ss p) t (f .timestamp) k ph (omega arith) (omega arith)
+                (in-log f body l k g) w1 w2 w3 (L .inv);
           }
       confirmed RefreshPending e h =
           let q = L .relM in
           let s2 : confirmedOf em t .state ≡ Refresh = rw e in
           record {
-            master = record { nextOut = L .master .nextOut; nextIn = L .master .nextIn; held = L .master .held; phase = liveM t none };
+            master = record {
+              nextOut = L .master .nextOut;
+              nextIn = L .master .nextIn;
+              held = L .master .held;
+              phase = liveM t none;
+            };
             slave = L .slave;
             setM = L .setM;
             setS = L .setS;
@@ -310,10 +350,13 @@ module _ (c : Clocks) (sm ss : Settings) (p : Paired sm ss) {l : List Entry} {em
       young : Young (minus (t % span) (at (marks l) k .stamp)) (sm .roundtrip) (sm .age)
       young =
           let a : ageOf em t (f .timestamp) ≡ minus (t % span) (at (marks l) k .stamp) =
-          ap (λ (y : ℕ). minus y (f .timestamp)) (time ∙ omega arith) ∙ ap (minus (t % span)) (sym (marked-stamp f body l k g)) in
-          let w : allowanceOf (em .settings) ≡ sm .roundtrip = cond-false (em .settings .slave) 0 (em .settings .roundtrip) role ∙ ap (λ (y : Settings). y .roundtrip) (L .setM) in
+          ap (λ (y : ℕ). minus y (f .timestamp)) (time ∙ omega arith)
+          ∙ ap (minus (t % span)) (sym (marked-stamp f body l k g)) in
+          let w : allowanceOf (em .settings) ≡ sm .roundtrip = cond-false (em .settings .slave) 0
+          (em .settings .roundtrip) role ∙ ap (λ (y : Settings). y .roundtrip) (L .setM) in
           let g : em .settings .age ≡ sm .age = ap (λ (y : Settings). y .age) (L .setM) in
-          young-of (ageOf em t (f .timestamp)) (allowanceOf (em .settings)) (em .settings .age) _ _ _ a w g (d .near) (d .young)
+          young-of (ageOf em t (f .timestamp)) (allowanceOf (em .settings)) (em .settings .age) _ _ _ a w g (d .near)
+          (d .young)
 
       pub rises-m : tm ≤ k
       rises-m =
@@ -321,7 +364,8 @@ module _ (c : Clocks) (sm ss : Settings) (p : Paired sm ss) {l : List Entry} {em
           let a = above-top (em .timestamps .accepted) (f .timestamp) (d .above) in
           let i = q .nextIn in
           let s = (marked-stamp f body l k g) in
-          let z = held-rises (termsOf c sm ss) (small-of c sm ss p) 2 (L .master .nextIn) (L .master .held) k (L .inv .log) (L .inv .master .held) (in-log f body l k g) marked-who (omega arith) in
+          let z = held-rises (termsOf c sm ss) (small-of c sm ss p) 2 (L .master .nextIn) (L .master .held) k
+          (L .inv .log) (L .inv .master .held) (in-log f body l k g) marked-who (omega arith) in
           let h = q .held in
           omega arith
 
@@ -334,7 +378,12 @@ module _ (c : Clocks) (sm ss : Settings) (p : Paired sm ss) {l : List Entry} {em
           let n = refresh-not-setup (em .state) (d .refresh) in
           let b = marked-body f body l k g in
           record {
-            master = record { nextOut = L .master .nextOut; nextIn = suc (at (marks l) k .stamp); held = suc k; phase = liveM t (some (at (marks l) k .body)) };
+            master = record {
+              nextOut = L .master .nextOut;
+              nextIn = suc (at (marks l) k .stamp);
+              held = suc k;
+              phase = liveM t (some (at (marks l) k .body));
+            };
             slave = L .slave;
             setM = L .setM;
             setS = L .setS;
@@ -342,18 +391,26 @@ module _ (c : Clocks) (sm ss : Settings) (p : Paired sm ss) {l : List Entry} {em
               nextOut = q .nextOut;
               nextIn = ap suc (sym (marked-stamp f body l k g));
               held = refl;
-              live = λ z. record { value = some body; phase = ap (λ (y : List ℕ). liveM t (some y)) b; holds = (refl, refl, d .width) };
+              live = λ z. record {
+                value = some body;
+                phase = ap (λ (y : List ℕ). liveM t (some y)) b;
+                holds =
+                    (refl, refl, d .width);
+              };
               pend = λ z y o. absurd (true≢false (sym z ∙ n));
               ready = λ z y. absurd (true≢false (sym (pending-setup (em .state) z) ∙ n));
             };
             relS = L .relS;
             honest = L .honest;
-            inv = m-takes (termsOf c sm ss) (small-of c sm ss p) t k refl (omega arith) (in-log f body l k g) marked-who ((marked-code f body l k g) ∙ eqb-true (codeOf (f .command)) 255 r) (omega arith) (young-more _ _ _ _ (omega arith) young) (L .inv);
+            inv = m-takes (termsOf c sm ss) (small-of c sm ss p) t k refl (omega arith) (in-log f body l k g)
+                marked-who ((marked-code f body l k g) ∙ eqb-true (codeOf (f .command)) 255 r) (omega arith)
+                (young-more _ _ _ _ (omega arith) young) (L .inv);
           }
 
   -- ---- a show that is not fail-safe
   module _ (x : isExpired em t ≡ false) (n : isFailSafe em ≡ false) where
-    held-at : (v : Option (List ℕ)) → Holds (em .settings) (em .value) v → (h : ℕ) → tm ≡ h → Held (marks l) 2 (L .master .nextIn) h
+    held-at : (v : Option (List ℕ)) → Holds (em .settings) (em .value) v → (h : ℕ) → tm ≡ h
+        → Held (marks l) 2 (L .master .nextIn) h
         → ValueOf (marks l) h (em .since + c .master) (sm .age + sm .roundtrip + wobble) v
         → ShownAt (marks l) 2 tm (t + c .master) (sm .age + (sm .interval + sm .roundtrip)) (shownOf em)
     held-at none o h e q w = absurd (true≢false (sym (is-taken em n) ∙ o))
@@ -378,4 +435,5 @@ module _ (c : Clocks) (sm ss : Settings) (p : Paired sm ss) {l : List Entry} {em
     shown-m =
         let v = L .relM .live (in-refresh em n) in
         held-at (v .value) (v .holds) (L .master .held) (L .relM .held) (L .inv .master .held)
-        (subst (MPh (termsOf c sm ss) (marks l) (L .master .nextOut) (L .master .held)) (v .phase) (L .inv .master .phase))
+        (subst (MPh (termsOf c sm ss) (marks l) (L .master .nextOut) (L .master .held)) (v .phase)
+        (L .inv .master .phase))

@@ -37,7 +37,8 @@ use Rattle.link.proofs.Entries.{marks-snoc, size-marks, at-marks, hones
 use Rattle.link.proofs.Shown.{ShownAt, in-refresh, is-taken, shown-is}
 use Rattle.link.proofs.Codes.{refresh-not-setup, pending-setup, targetOf, leads, go-from}
 
-module _ (c : Clocks) (sm ss : Settings) (p : Paired sm ss) {l : List Entry} {em es : Endpoint} {tm ts : ℕ} (t : ℕ) (lim : t ≤ clockLimit)
+module _ (c : Clocks) (sm ss : Settings) (p : Paired sm ss) {l : List Entry} {em es : Endpoint} {tm ts : ℕ} (t : ℕ)
+    (lim : t ≤ clockLimit)
     (L : Linked c sm ss (t + c .slave) l em es tm ts) where
   role : es .settings .slave ≡ true
   role = ap (λ (s : Settings). s .slave) (L .setS) ∙ p .slave
@@ -77,7 +78,8 @@ module _ (c : Clocks) (sm ss : Settings) (p : Paired sm ss) {l : List Entry} {em
   pub stopped-s : Linked c sm ss (t + c .slave) l em (stoppedOf es t) tm ts
   stopped-s =
       let q = cond-true (es .settings .slave) (es .timestamps) _ role in
-      rest (stoppedOf es t) (L .setS) (ap (λ (b : Timestamps). topOf (b .sent)) q) (ap (λ (b : Timestamps). topOf (b .accepted)) q) refl refl
+      rest (stoppedOf es t) (L .setS) (ap (λ (b : Timestamps). topOf (b .sent)) q)
+      (ap (λ (b : Timestamps). topOf (b .accepted)) q) refl refl
 
   -- S-Refresh with the lent value
   module _ (value : List ℕ) (d : RefreshSent es t value) where
@@ -95,7 +97,12 @@ module _ (c : Clocks) (sm ss : Settings) (p : Paired sm ss) {l : List Entry} {em
         let a = above-top (es .timestamps .sent) (timeOf es t) (d .above) in
         let y = time in
         let o = q .nextOut in
-        let S : Slave = record { nextOut = suc ((t + es .setup .offset) % span); nextIn = L .slave .nextIn; held = L .slave .held; phase = L .slave .phase } in
+        let S : Slave = record {
+          nextOut = suc ((t + es .setup .offset) % span);
+          nextIn = L .slave .nextIn;
+          held = L .slave .held;
+          phase = L .slave .phase;
+        } in
         record {
           master = L .master;
           slave = S;
@@ -112,24 +119,28 @@ module _ (c : Clocks) (sm ss : Settings) (p : Paired sm ss) {l : List Entry} {em
           honest = honest-snoc l refreshing (L .honest) (record { writer = role; value = λ h. refl });
           inv = subst (λ (x : List Mark). Inv (termsOf c sm ss) (t + c .slave) x (L .master) S)
               (sym (marks-snoc l refreshing ∙ ap (snoc (marks l)) refresh-mark))
-              (s-sends (termsOf c sm ss) (small-of c sm ss p) t (t + c .slave) (es .setup .offset) (es .since) value (v .value) (v .phase) refl refl
+              (s-sends (termsOf c sm ss) (small-of c sm ss p) t (t + c .slave) (es .setup .offset) (es .since) value
+              (v .value) (v .phase) refl refl
               (omega arith) (L .inv));
         }
 
   -- ---- a frame of the log, at place k, that the master wrote
   module _ (f : Fields) (body : List ℕ) (k : ℕ) (g : FoundAt f body l k) (masters : f .application ≡ false) where
     marked-who : at (marks l) k .who ≡ 0
-    marked-who = ap (λ (y : Mark). y .who) (the-mark f body l k g) ∙ (λ i. cond (masters i) (cond (is (f .command) K.Refresh) 2 1) 0)
+    marked-who = ap (λ (y : Mark). y .who) (the-mark f body l k g)
+        ∙ (λ i. cond (masters i) (cond (is (f .command) K.Refresh) 2 1) 0)
 
     marked-baseline : at (marks l) k .baseline ≡ f .baseline
     marked-baseline = ap (λ (y : Mark). y .baseline) (the-mark f body l k g)
 
     small-stamp : f .timestamp < span
-    small-stamp = let z = L .inv .log .stamped k (in-log f body l k g) .small in let y = (marked-stamp f body l k g) in omega arith
+    small-stamp = let z = L .inv .log .stamped k (in-log f body l k g) .small in let y =
+        (marked-stamp f body l k g) in omega arith
 
     module _ (a : isAbove (es .timestamps .accepted) (f .timestamp) ≡ true) where
       next-below : L .slave .nextIn ≤ at (marks l) k .stamp
-      next-below = let z = above-top (es .timestamps .accepted) (f .timestamp) a in let y = (marked-stamp f body l k g) in let o = L .relS .nextIn in omega arith
+      next-below = let z = above-top (es .timestamps .accepted) (f .timestamp) a in let y =
+          (marked-stamp f body l k g) in let o = L .relS .nextIn in omega arith
 
       -- S-Disconnect: no reply
       pub heard-s : Linked c sm ss (t + c .slave) l em (endedBy es (f .timestamp)) tm ts
@@ -137,7 +148,12 @@ module _ (c : Clocks) (sm ss : Settings) (p : Paired sm ss) {l : List Entry} {em
           let q = L .relS in
           record {
             master = L .master;
-            slave = record { nextOut = L .slave .nextOut; nextIn = suc (at (marks l) k .stamp); held = L .slave .held; phase = restS };
+            slave = record {
+              nextOut = L .slave .nextOut;
+              nextIn = suc (at (marks l) k .stamp);
+              held = L .slave .held;
+              phase = restS;
+            };
             setM = L .setM;
             setS = L .setS;
             relM = L .relM;
@@ -155,23 +171,45 @@ module _ (c : Clocks) (sm ss : Settings) (p : Paired sm ss) {l : List Entry} {em
       -- a reply, with Error or not
       module _ (error : Bool) (n : is (f .command) K.Refresh ≡ false) where
         abbrev pub replying : Entry
-        replying = record { slave = true; moment = t + c .slave; fields = replyFields es f error; body = body; lent = [] }
+        replying = record {
+          slave = true;
+          moment = t + c .slave;
+          fields = replyFields es f error;
+          body = body;
+          lent =
+              [];
+        }
 
         reply-mark : markOf replying ≡ mark 1 (codeOf (f .command)) (at (marks l) k .stamp) 0 (t + c .slave) body
         reply-mark =
-            let s : f .timestamp % span ≡ at (marks l) k .stamp = mod-eq-of-lt small-stamp ∙ sym (marked-stamp f body l k g) in
+            let s : f .timestamp % span ≡ at (marks l) k .stamp = mod-eq-of-lt small-stamp
+            ∙ sym (marked-stamp f body l k g) in
             λ i. mark (cond (n i) 2 1) (codeOf (f .command)) (s i) 0 (t + c .slave) body
 
         reply-honest : Honest replying
         reply-honest = record { writer = refl; value = λ h. absurd (true≢false (sym h ∙ n)) }
 
         replied : (e : Endpoint) (phase : SPhase) → e .settings ≡ ss
-            → let S : Slave = record { nextOut = L .slave .nextOut; nextIn = suc (at (marks l) k .stamp); held = L .slave .held; phase = phase } in
+            → let S : Slave = record {
+              nextOut = L .slave .nextOut;
+              nextIn = suc (at (marks l) k .stamp);
+              held = L .slave .held;
+              phase =
+                  phase;
+            } in
             RelS e ts S
-            → Inv (termsOf c sm ss) (t + c .slave) (snoc (marks l) (mark 1 (codeOf (f .command)) (at (marks l) k .stamp) 0 (t + c .slave) body)) (L .master) S
+            → Inv (termsOf c sm ss) (t + c .slave)
+            (snoc (marks l) (mark 1 (codeOf (f .command)) (at (marks l) k .stamp) 0 (t + c .slave) body))
+            (L .master) S
             → Linked c sm ss (t + c .slave) (l ++ (replying ∷ [])) em e tm ts
         replied e phase s r v =
-            let S : Slave = record { nextOut = L .slave .nextOut; nextIn = suc (at (marks l) k .stamp); held = L .slave .held; phase = phase } in
+            let S : Slave = record {
+              nextOut = L .slave .nextOut;
+              nextIn = suc (at (marks l) k .stamp);
+              held = L .slave .held;
+              phase =
+                  phase;
+            } in
             record {
               master = L .master;
               slave = S;
@@ -186,7 +224,8 @@ module _ (c : Clocks) (sm ss : Settings) (p : Paired sm ss) {l : List Entry} {em
 
         -- the slave rests after its reply
         replied-rest : (e : Endpoint) → e .settings ≡ ss → topOf (e .timestamps .sent) ≡ topOf (es .timestamps .sent)
-            → topOf (e .timestamps .accepted) ≡ suc (f .timestamp) → isState (e .state) Refresh ≡ false → isState (e .state) RefreshPending ≡ false
+            → topOf (e .timestamps .accepted) ≡ suc (f .timestamp) → isState (e .state) Refresh ≡ false
+            → isState (e .state) RefreshPending ≡ false
             → Linked c sm ss (t + c .slave) (l ++ (replying ∷ [])) em e tm ts
         replied-rest e s o i r h =
             let q = L .relS in
@@ -198,24 +237,28 @@ module _ (c : Clocks) (sm ss : Settings) (p : Paired sm ss) {l : List Entry} {em
               live = λ z. absurd (true≢false (sym z ∙ r));
               ready = λ z. absurd (true≢false (sym z ∙ h));
             })
-            (s-replies (termsOf c sm ss) (small-of c sm ss p) (t + c .slave) k (codeOf (f .command)) body restS refl (in-log f body l k g) marked-who next-below tt (L .inv))
+            (s-replies (termsOf c sm ss) (small-of c sm ss p) (t + c .slave) k (codeOf (f .command)) body restS refl
+            (in-log f body l k g) marked-who next-below tt (L .inv))
 
         pub unequal-s : Linked c sm ss (t + c .slave) (l ++ (replying ∷ [])) em (endedBy es (f .timestamp)) tm ts
         unequal-s = replied-rest (endedBy es (f .timestamp)) (L .setS) refl refl refl refl
 
       -- a request that is done
-      module _ (d : RequestTaken es t f body) (x : isExpired es t ≡ false) (n : is (f .command) K.Refresh ≡ false) (o : is (f .command) K.Disconnect ≡ false) where
+      module _ (d : RequestTaken es t f body) (x : isExpired es t ≡ false) (n : is (f .command) K.Refresh ≡ false)
+          (o : is (f .command) K.Disconnect ≡ false) where
         to : (q : Command) → f .command ≡ q → advancedOf es t f .state ≡ targetOf q
         to q e =
             ap (λ (y : Next). stateTo y (es .state)) (leads (f .command) (es .state) (d .turn))
             ∙ ap targetOf e
 
         -- S-RefreshReady: s2
-        ready-s : f .command ≡ K.RefreshReady → Linked c sm ss (t + c .slave) (l ++ (replying false n ∷ [])) em (advancedOf es t f) tm ts
+        ready-s : f .command ≡ K.RefreshReady
+            → Linked c sm ss (t + c .slave) (l ++ (replying false n ∷ [])) em (advancedOf es t f) tm ts
         ready-s e =
             let q = L .relS in
             let s2 = to K.RefreshReady e in
-            let m2 : advancedOf es t f .setup .measured ≡ t = ap (λ (y : Command). measuredBy y t (es .setup .measured)) e in
+            let m2 : advancedOf es t f .setup .measured ≡ t = ap
+            (λ (y : Command). measuredBy y t (es .setup .measured)) e in
             replied false n (advancedOf es t f) (armed t) (L .setS)
             (record {
               nextOut = q .nextOut;
@@ -224,22 +267,31 @@ module _ (c : Clocks) (sm ss : Settings) (p : Paired sm ss) {l : List Entry} {em
               live = λ z. absurd (false≢true (sym (ap (λ (y : State). isState y Refresh) s2) ∙ z));
               ready = λ z. record { phase = ap armed (sym m2); since = sym m2 };
             })
-            (s-arms (termsOf c sm ss) (small-of c sm ss p) t (t + c .slave) k (codeOf (f .command)) body refl refl (omega arith) (in-log f body l k g) marked-who
+            (s-arms (termsOf c sm ss) (small-of c sm ss p) t (t + c .slave) k (codeOf (f .command)) body refl refl
+            (omega arith) (in-log f body l k g) marked-who
             ((marked-code f body l k g) ∙ ap codeOf e) next-below (L .inv))
 
         -- S-RefreshGO: ts_offset
-        go-s : f .command ≡ K.RefreshGo → Linked c sm ss (t + c .slave) (l ++ (replying false n ∷ [])) em (advancedOf es t f) tm ts
+        go-s : f .command ≡ K.RefreshGo
+            → Linked c sm ss (t + c .slave) (l ++ (replying false n ∷ [])) em (advancedOf es t f) tm ts
         go-s e =
             let q = L .relS in
             let s2 = to K.RefreshGo e in
-            let r = q .ready (go-from (es .state) (ap (λ (y : Command). isNo (nextOf y (es .state))) (sym e) ∙ d .turn)) in
-            let u = setup-timer es t x (pending-setup (es .state) (go-from (es .state) (ap (λ (y : Command). isNo (nextOf y (es .state))) (sym e) ∙ d .turn))) in
+            let r = q .ready (go-from (es .state)
+            (ap (λ (y : Command). isNo (nextOf y (es .state))) (sym e) ∙ d .turn)) in
+            let u = setup-timer es t x
+            (pending-setup (es .state)
+            (go-from (es .state) (ap (λ (y : Command). isNo (nextOf y (es .state))) (sym e) ∙ d .turn))) in
             let i = r .since in
             let R : es .settings .roundtrip ≡ ss .roundtrip = ap (λ (y : Settings). y .roundtrip) (L .setS) in
-            let off : minus (minus (at (marks l) k .stamp) (at (marks l) k .baseline)) (es .setup .measured) ≡ advancedOf es t f .setup .offset =
+            let off : minus (minus (at (marks l) k .stamp) (at (marks l) k .baseline)) (es .setup .measured) ≡
+            advancedOf es t f .setup .offset =
             (λ j. minus (minus ((marked-stamp f body l k g) j) (marked-baseline j)) (es .setup .measured))
-            ∙ sym (ap (λ (y : Command). cond (is y K.RefreshGo) (offsetFrom (f .timestamp) (f .baseline) (es .setup .measured)) (es .setup .offset)) e) in
-            replied false n (advancedOf es t f) (liveS (minus (minus (at (marks l) k .stamp) (at (marks l) k .baseline)) (es .setup .measured)) t none) (L .setS)
+            ∙ sym (ap (λ (y : Command). cond (is y K.RefreshGo)
+            (offsetFrom (f .timestamp) (f .baseline) (es .setup .measured)) (es .setup .offset)) e) in
+            replied false n (advancedOf es t f)
+            (liveS (minus (minus (at (marks l) k .stamp) (at (marks l) k .baseline)) (es .setup .measured)) t
+            none) (L .setS)
             (record {
               nextOut = q .nextOut;
               nextIn = ap suc (sym (marked-stamp f body l k g));
@@ -247,16 +299,20 @@ module _ (c : Clocks) (sm ss : Settings) (p : Paired sm ss) {l : List Entry} {em
               live = λ z. record { value = none; phase = ap (λ (y : ℕ). liveS y t none) off; holds = refl };
               ready = λ z. absurd (false≢true (sym (ap (λ (y : State). isState y RefreshPending) s2) ∙ z));
             })
-            (s-goes (termsOf c sm ss) (small-of c sm ss p) t (t + c .slave) k (codeOf (f .command)) (es .setup .measured) body (r .phase) refl refl (omega arith)
+            (s-goes (termsOf c sm ss) (small-of c sm ss p) t (t + c .slave) k (codeOf (f .command))
+            (es .setup .measured) body (r .phase) refl refl (omega arith)
             (in-log f body l k g) marked-who ((marked-code f body l k g) ∙ ap codeOf e) next-below (L .inv))
 
-        plain-s : (q : Command) → f .command ≡ q → isState (targetOf q) Refresh ≡ false → isState (targetOf q) RefreshPending ≡ false
+        plain-s : (q : Command) → f .command ≡ q → isState (targetOf q) Refresh ≡ false
+            → isState (targetOf q) RefreshPending ≡ false
             → Linked c sm ss (t + c .slave) (l ++ (replying false n ∷ [])) em (advancedOf es t f) tm ts
         plain-s q e h i =
-            replied-rest false n (advancedOf es t f) (L .setS) refl refl (ap (λ (y : State). isState y Refresh) (to q e) ∙ h)
+            replied-rest false n (advancedOf es t f) (L .setS) refl refl
+            (ap (λ (y : State). isState y Refresh) (to q e) ∙ h)
             (ap (λ (y : State). isState y RefreshPending) (to q e) ∙ i)
 
-        by-command : (q : Command) → f .command ≡ q → Linked c sm ss (t + c .slave) (l ++ (replying false n ∷ [])) em (advancedOf es t f) tm ts
+        by-command : (q : Command) → f .command ≡ q
+            → Linked c sm ss (t + c .slave) (l ++ (replying false n ∷ [])) em (advancedOf es t f) tm ts
         by-command K.Connect e = plain-s K.Connect e refl refl
         by-command K.ConfirmNetwork e = plain-s K.ConfirmNetwork e refl refl
         by-command K.VerifyStation e = plain-s K.VerifyStation e refl refl
@@ -269,19 +325,23 @@ module _ (c : Clocks) (sm ss : Settings) (p : Paired sm ss) {l : List Entry} {em
         advanced-s = by-command (f .command) refl
 
     -- an S-Refresh of the master
-    module _ (d : RefreshTaken es t (f .timestamp) body) (x : isExpired es t ≡ false) (r : is (f .command) K.Refresh ≡ true) where
+    module _ (d : RefreshTaken es t (f .timestamp) body) (x : isExpired es t ≡ false)
+        (r : is (f .command) K.Refresh ≡ true) where
       young : Young (minus ((t + es .setup .offset) % span) (at (marks l) k .stamp)) wobble (ss .age)
       young =
           let a : ageOf es t (f .timestamp) ≡ minus ((t + es .setup .offset) % span) (at (marks l) k .stamp) =
-          ap (λ (y : ℕ). minus y (f .timestamp)) time ∙ ap (minus ((t + es .setup .offset) % span)) (sym (marked-stamp f body l k g)) in
+          ap (λ (y : ℕ). minus y (f .timestamp)) time
+          ∙ ap (minus ((t + es .setup .offset) % span)) (sym (marked-stamp f body l k g)) in
           let w : allowanceOf (es .settings) ≡ 0 = cond-true (es .settings .slave) 0 (es .settings .roundtrip) role in
           let h : es .settings .age ≡ ss .age = ap (λ (y : Settings). y .age) (L .setS) in
-          young-of (ageOf es t (f .timestamp)) (allowanceOf (es .settings)) (es .settings .age) _ _ _ a w h (d .near) (d .young)
+          young-of (ageOf es t (f .timestamp)) (allowanceOf (es .settings)) (es .settings .age) _ _ _ a w h (d .near)
+          (d .young)
 
       pub rises-s : ts ≤ k
       rises-s =
           let q = L .relS in
-          let z = held-rises (termsOf c sm ss) (small-of c sm ss p) 0 (L .slave .nextIn) (L .slave .held) k (L .inv .log) (L .inv .slave .held) (in-log f body l k g) marked-who (next-below (d .above)) in
+          let z = held-rises (termsOf c sm ss) (small-of c sm ss p) 0 (L .slave .nextIn) (L .slave .held) k
+          (L .inv .log) (L .inv .slave .held) (in-log f body l k g) marked-who (next-below (d .above)) in
           let h = q .held in
           omega arith
 
@@ -295,7 +355,13 @@ module _ (c : Clocks) (sm ss : Settings) (p : Paired sm ss) {l : List Entry} {em
           let b = marked-body f body l k g in
           record {
             master = L .master;
-            slave = record { nextOut = L .slave .nextOut; nextIn = suc (at (marks l) k .stamp); held = suc k; phase = liveS (es .setup .offset) t (some (at (marks l) k .body)) };
+            slave = record {
+              nextOut = L .slave .nextOut;
+              nextIn = suc (at (marks l) k .stamp);
+              held = suc k;
+              phase =
+                  liveS (es .setup .offset) t (some (at (marks l) k .body));
+            };
             setM = L .setM;
             setS = L .setS;
             relM = L .relM;
@@ -303,17 +369,25 @@ module _ (c : Clocks) (sm ss : Settings) (p : Paired sm ss) {l : List Entry} {em
               nextOut = q .nextOut;
               nextIn = ap suc (sym (marked-stamp f body l k g));
               held = refl;
-              live = λ z. record { value = some body; phase = ap (λ (y : List ℕ). liveS (es .setup .offset) t (some y)) b; holds = (refl, refl, d .width) };
+              live = λ z. record {
+                value = some body;
+                phase = ap
+                    (λ (y : List ℕ). liveS (es .setup .offset) t (some y)) b;
+                holds = (refl, refl, d .width);
+              };
               ready = λ z. absurd (true≢false (sym (pending-setup (es .state) z) ∙ n));
             };
             honest = L .honest;
-            inv = s-takes (termsOf c sm ss) (small-of c sm ss p) t (t + c .slave) (es .setup .offset) (es .since) k (v .value) (v .phase) refl refl (omega arith)
-                (in-log f body l k g) marked-who ((marked-code f body l k g) ∙ eqb-true (codeOf (f .command)) 255 r) (next-below (d .above)) young (L .inv);
+            inv = s-takes (termsOf c sm ss) (small-of c sm ss p) t (t + c .slave) (es .setup .offset) (es .since) k
+                (v .value) (v .phase) refl refl (omega arith)
+                (in-log f body l k g) marked-who ((marked-code f body l k g) ∙ eqb-true (codeOf (f .command)) 255 r)
+                (next-below (d .above)) young (L .inv);
           }
 
   -- ---- a show that is not fail-safe
   module _ (x : isExpired es t ≡ false) (n : isFailSafe es ≡ false) where
-    held-at : (v : Option (List ℕ)) → Holds (es .settings) (es .value) v → (h : ℕ) → ts ≡ h → Held (marks l) 0 (L .slave .nextIn) h
+    held-at : (v : Option (List ℕ)) → Holds (es .settings) (es .value) v → (h : ℕ) → ts ≡ h
+        → Held (marks l) 0 (L .slave .nextIn) h
         → LiveS (termsOf c sm ss) (marks l) (L .slave .nextIn) h (es .setup .offset) (es .since) v
         → ShownAt (marks l) 0 ts (t + c .slave) (ss .age + (ss .interval + 0)) (shownOf es)
     held-at none o h e q w = absurd (true≢false (sym (is-taken es n) ∙ o))

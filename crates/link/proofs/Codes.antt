@@ -14,7 +14,8 @@ use Rattle.endpoint.specs.Table.{isState, isSetup, isNo, nextOf, requestOf}
 use Rattle.steps.specs.Frames.{baselineOf}
 
 -- by cases on the state
-each : (P : State → Type 0) → P Close → P Starting → P EstablishPending → P Establish → P ParamVerify → P RefreshPending → P Refresh → P Terminate
+each : (P : State → Type 0) → P Close → P Starting → P EstablishPending → P Establish → P ParamVerify
+    → P RefreshPending → P Refresh → P Terminate
     → (s : State) → P s
 each P a b c d e f g h Close = a
 each P a b c d e f g h Starting = b
@@ -35,12 +36,15 @@ off h = absurd (false≢true h)
 pub go-due : (s : State) → codeOf (requestOf s) ≡ 254 → isState s RefreshPending ≡ true
 go-due =
     each (λ s. codeOf (requestOf s) ≡ 254 → isState s RefreshPending ≡ true)
-    (λ h. absurd (omega arith)) (λ h. absurd (omega arith)) (λ h. absurd (omega arith)) (λ h. absurd (omega arith)) (λ h. absurd (omega arith))
+    (λ h. absurd (omega arith)) (λ h. absurd (omega arith)) (λ h. absurd (omega arith)) (λ h. absurd (omega arith))
+    (λ h. absurd (omega arith))
     (λ h. refl) (λ h. absurd (omega arith)) (λ h. absurd (omega arith))
 
-pub go-baseline : (t m : ℕ) (s : State) → isState s RefreshPending ≡ true → baselineOf (requestOf s) t m ≡ (t - m) % 65536
+pub go-baseline : (t m : ℕ) (s : State) → isState s RefreshPending ≡ true
+    → baselineOf (requestOf s) t m ≡ (t - m) % 65536
 go-baseline t m =
-    each (λ s. isState s RefreshPending ≡ true → baselineOf (requestOf s) t m ≡ (t - m) % 65536) off off off off off (λ h. refl) off off
+    each (λ s. isState s RefreshPending ≡ true → baselineOf (requestOf s) t m ≡ (t - m) % 65536) off off off off off
+    (λ h. refl) off off
 
 -- no request is S-Refresh
 pub request-not-refresh : (s : State) → is (requestOf s) K.Refresh ≡ false
@@ -48,7 +52,8 @@ request-not-refresh = each (λ s. is (requestOf s) K.Refresh ≡ false) refl ref
 
 -- Refresh is no setup state, and RefreshPending is one
 pub setup-not-refresh : (s : State) → isSetup s ≡ true → isState s Refresh ≡ false
-setup-not-refresh = each (λ s. isSetup s ≡ true → isState s Refresh ≡ false) (λ h. refl) (λ h. refl) (λ h. refl) (λ h. refl) (λ h. refl) (λ h. refl) off (λ h. refl)
+setup-not-refresh = each (λ s. isSetup s ≡ true → isState s Refresh ≡ false) (λ h. refl) (λ h. refl) (λ h. refl)
+    (λ h. refl) (λ h. refl) (λ h. refl) off (λ h. refl)
 
 pub refresh-not-setup : (s : State) → isState s Refresh ≡ true → isSetup s ≡ false
 refresh-not-setup = each (λ s. isState s Refresh ≡ true → isSetup s ≡ false) off off off off off off (λ h. refl) off
@@ -76,8 +81,10 @@ leads K.VerifyStation = each (Leads K.VerifyStation) no no no (λ h. refl) no no
 leads K.RefreshReady = each (Leads K.RefreshReady) no no no no (λ h. refl) no no no
 leads K.RefreshGo = each (Leads K.RefreshGo) no no no no no (λ h. refl) no no
 leads K.Refresh = each (Leads K.Refresh) no no no no no no (λ h. refl) no
-leads K.Disconnect = each (Leads K.Disconnect) no (λ h. refl) (λ h. refl) (λ h. refl) (λ h. refl) (λ h. refl) (λ h. refl) no
+leads K.Disconnect = each (Leads K.Disconnect) no (λ h. refl) (λ h. refl) (λ h. refl) (λ h. refl) (λ h. refl)
+    (λ h. refl) no
 
 -- S-RefreshGO is taken in RefreshPending alone
 pub go-from : (s : State) → isNo (nextOf K.RefreshGo s) ≡ false → isState s RefreshPending ≡ true
-go-from = each (λ s. isNo (nextOf K.RefreshGo s) ≡ false → isState s RefreshPending ≡ true) no no no no no (λ h. refl) no no
+go-from = each (λ s. isNo (nextOf K.RefreshGo s) ≡ false → isState s RefreshPending ≡ true) no no no no no (λ h. refl)
+    no no

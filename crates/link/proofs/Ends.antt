@@ -39,7 +39,8 @@ other-bit true false h = refl
 other-bit false true h = refl
 other-bit false false h = absurd (true≢false h)
 
-module _ (c : Clocks) (sm ss : Settings) (p : Paired sm ss) {l : List Entry} {em es : Endpoint} {tm ts : ℕ} (t : ℕ) (lim : t ≤ clockLimit) where
+module _ (c : Clocks) (sm ss : Settings) (p : Paired sm ss) {l : List Entry} {em es : Endpoint} {tm ts : ℕ} (t : ℕ)
+    (lim : t ≤ clockLimit) where
   -- ---- the master
   module _ (L : Linked c sm ss (t + c .master) l em es tm ts) where
     role : em .settings .slave ≡ false
@@ -54,39 +55,50 @@ module _ (c : Clocks) (sm ss : Settings) (p : Paired sm ss) {l : List Entry} {em
     silent-m : (call : Call) (a : Answer) (x : Endpoint) → AtM l x tm → KeepsM call (outcome a x nothing)
     silent-m call a x k = subst (λ (y : List Entry). AtM y x tm) (sym (append-nil l)) k
 
-    sent-m : (value : List ℕ) → isExpired em t ≡ false → sendOf em t value .answer ≡ Done → KeepsM (send value) (sendOf em t value)
+    sent-m : (value : List ℕ) → isExpired em t ≡ false → sendOf em t value .answer ≡ Done
+        → KeepsM (send value) (sendOf em t value)
     sent-m value x h =
-        ⊎-elim (λ (d : RefreshSent em t value). subst (KeepsM (send value)) (sym (d .comes)) (M.refresh-sent-m c sm ss p t lim L value d))
-        (λ (d : RequestSent em t value). subst (KeepsM (send value)) (sym (d .comes)) (M.requested-m c sm ss p t lim L value d x))
+        ⊎-elim (λ (d : RefreshSent em t value). subst (KeepsM (send value)) (sym (d .comes))
+        (M.refresh-sent-m c sm ss p t lim L value d))
+        (λ (d : RequestSent em t value). subst (KeepsM (send value)) (sym (d .comes))
+        (M.requested-m c sm ss p t lim L value d x))
         (send-done em t value h)
 
     stopped-m : stopOf em t .answer ≡ Done → KeepsM stop (stopOf em t)
     stopped-m h =
         let d = stop-done em t h in
-        subst (KeepsM stop) (sym (d .comes ∙ ap (outcome Done (stoppedOf em t)) (cond-false (em .settings .slave) _ _ role)))
+        subst (KeepsM stop) (sym
+        (d .comes ∙ ap (outcome Done (stoppedOf em t)) (cond-false (em .settings .slave) _ _ role)))
         (M.stopped-m c sm ss p t lim L d)
 
-    other-m : (f : Fields) (body : List ℕ) (k : ℕ) → isExpired em t ≡ false → FoundAt f body l k → Bool·beq (f .application) (em .settings .slave) ≡ false
+    other-m : (f : Fields) (body : List ℕ) (k : ℕ) → isExpired em t ≡ false → FoundAt f body l k
+        → Bool·beq (f .application) (em .settings .slave) ≡ false
         → is (f .command) K.Refresh ≡ false → KeepsM (deliver f body) (deliverOf em t f body)
-    other-m f body k x g h n = subst (KeepsM (deliver f body)) (sym (deliver-reply em t f body h n role)) (go (firstOf (replyFaults em f body)) refl)
+    other-m f body k x g h n = subst (KeepsM (deliver f body)) (sym (deliver-reply em t f body h n role))
+        (go (firstOf (replyFaults em f body)) refl)
       where
         go : (a : Answer) → firstOf (replyFaults em f body) ≡ a → KeepsM (deliver f body) (takeReply em t f body)
         go Done e =
             let d = reply-done em t f body e in
             subst (KeepsM (deliver f body)) (sym (d .comes))
-            (silent-m (deliver f body) Done _ (M.confirmed-m c sm ss p t lim L f body k g (other-bit (f .application) (em .settings .slave) h ∙ ap not role) d x))
+            (silent-m (deliver f body) Done _
+            (M.confirmed-m c sm ss p t lim L f body k g
+            (other-bit (f .application) (em .settings .slave) h ∙ ap not role) d x))
         go (Dropped r) e = rw e (silent-m (deliver f body) (Dropped r) em L)
         go (Ended r) e = rw e (silent-m (deliver f body) (Ended r) (endedOf em) (M.ended-m c sm ss p t lim L))
 
     pub at-master : (call : Call) → mayDeliver l call ≡ true
-        → Linked c sm ss (t + c .master) (l ++ logged false (t + c .master) call (callOf em t call .writes)) (callOf em t call .endpoint) es
+        → Linked c sm ss (t + c .master) (l ++ logged false (t + c .master) call (callOf em t call .writes))
+        (callOf em t call .endpoint) es
         (tookBy l call (callOf em t call .answer) tm) ts
         × (tm ≤ tookBy l call (callOf em t call .answer) tm)
     unfolding Keeps Kept
     at-master call h =
         bcase (isExpired em t)
-        (λ x. rw x (expired false (t + c .master) t l em tm AtM L (M.ended-m c sm ss p t lim L) (λ q. M.started-m c sm ss p t lim L) (M.restarted-m c sm ss p t lim L) call))
-        (λ x. rw x (acted false (t + c .master) t l em tm AtM L (M.ended-m c sm ss p t lim L) (λ q. M.started-m c sm ss p t lim L) (M.restarted-m c sm ss p t lim L)
+        (λ x. rw x (expired false (t + c .master) t l em tm AtM L (M.ended-m c sm ss p t lim L)
+        (λ q. M.started-m c sm ss p t lim L) (M.restarted-m c sm ss p t lim L) call))
+        (λ x. rw x (acted false (t + c .master) t l em tm AtM L (M.ended-m c sm ss p t lim L)
+        (λ q. M.started-m c sm ss p t lim L) (M.restarted-m c sm ss p t lim L)
         (λ value d. sent-m value x d) stopped-m
         (λ f body k g q r d.
         let o = other-bit (f .application) (em .settings .slave) q ∙ ap not role in
@@ -110,54 +122,71 @@ module _ (c : Clocks) (sm ss : Settings) (p : Paired sm ss) {l : List Entry} {em
 
     sent-s : (value : List ℕ) → sendOf es t value .answer ≡ Done → KeepsS (send value) (sendOf es t value)
     sent-s value h =
-        ⊎-elim (λ (d : RefreshSent es t value). subst (KeepsS (send value)) (sym (d .comes)) (S.refresh-sent-s c sm ss p t lim L value d))
+        ⊎-elim (λ (d : RefreshSent es t value). subst (KeepsS (send value)) (sym (d .comes))
+        (S.refresh-sent-s c sm ss p t lim L value d))
         (λ (d : RequestSent es t value). absurd (true≢false (sym slave-role ∙ d .master)))
         (send-done es t value h)
 
     stopped-s : stopOf es t .answer ≡ Done → KeepsS stop (stopOf es t)
     stopped-s h =
         let d = stop-done es t h in
-        subst (KeepsS stop) (sym (d .comes ∙ ap (outcome Done (stoppedOf es t)) (cond-true (es .settings .slave) _ _ slave-role)))
+        subst (KeepsS stop) (sym
+        (d .comes ∙ ap (outcome Done (stoppedOf es t)) (cond-true (es .settings .slave) _ _ slave-role)))
         (silent-s stop Done (stoppedOf es t) (S.stopped-s c sm ss p t lim L))
 
     -- a request that was not dropped has a timestamp above the last accepted
     above-s : (f : Fields) (body : List ℕ) → isDropped (firstOf (requestFaults es f body)) ≡ false
         → isAbove (es .timestamps .accepted) (f .timestamp) ≡ true
-    above-s f body h = not-false (isAbove (es .timestamps .accepted) (f .timestamp)) (not-dropped (requestFaults es f body) h .repeat)
+    above-s f body h = not-false (isAbove (es .timestamps .accepted) (f .timestamp))
+        (not-dropped (requestFaults es f body) h .repeat)
 
-    other-s : (f : Fields) (body : List ℕ) (k : ℕ) → isExpired es t ≡ false → FoundAt f body l k → Bool·beq (f .application) (es .settings .slave) ≡ false
+    other-s : (f : Fields) (body : List ℕ) (k : ℕ) → isExpired es t ≡ false → FoundAt f body l k
+        → Bool·beq (f .application) (es .settings .slave) ≡ false
         → is (f .command) K.Refresh ≡ false → KeepsS (deliver f body) (deliverOf es t f body)
     other-s f body k x g h n =
         subst (KeepsS (deliver f body)) (sym (deliver-request es t f body h n slave-role))
-        (bcase (is (f .command) K.Disconnect) (leaves (firstOf (requestFaults es f body)) refl) (replies (firstOf (requestFaults es f body)) refl))
+        (bcase (is (f .command) K.Disconnect) (leaves (firstOf (requestFaults es f body)) refl)
+        (replies (firstOf (requestFaults es f body)) refl))
       where
         masters : f .application ≡ false
         masters = other-bit (f .application) (es .settings .slave) h ∙ ap not slave-role
 
-        ends : (a : Answer) → firstOf (requestFaults es f body) ≡ a → isDropped a ≡ false → isAbove (es .timestamps .accepted) (f .timestamp) ≡ true
+        ends : (a : Answer) → firstOf (requestFaults es f body) ≡ a → isDropped a ≡ false
+            → isAbove (es .timestamps .accepted) (f .timestamp) ≡ true
         ends a e q = above-s f body (ap isDropped e ∙ q)
 
-        leaves : (a : Answer) → firstOf (requestFaults es f body) ≡ a → is (f .command) K.Disconnect ≡ true → KeepsS (deliver f body) (takeRequest es t f body)
-        leaves Done e q = rw (e, q) (silent-s (deliver f body) Done (endedBy es (f .timestamp)) (S.heard-s c sm ss p t lim L f body k g masters (ends Done e refl)))
+        leaves : (a : Answer) → firstOf (requestFaults es f body) ≡ a → is (f .command) K.Disconnect ≡ true
+            → KeepsS (deliver f body) (takeRequest es t f body)
+        leaves Done e q = rw (e, q)
+            (silent-s (deliver f body) Done (endedBy es (f .timestamp))
+            (S.heard-s c sm ss p t lim L f body k g masters (ends Done e refl)))
         leaves (Dropped r) e q = rw e (silent-s (deliver f body) (Dropped r) es L)
-        leaves (Ended r) e q = rw (e, q) (silent-s (deliver f body) (Ended r) (endedBy es (f .timestamp)) (S.heard-s c sm ss p t lim L f body k g masters (ends (Ended r) e refl)))
+        leaves (Ended r) e q = rw (e, q)
+            (silent-s (deliver f body) (Ended r) (endedBy es (f .timestamp))
+            (S.heard-s c sm ss p t lim L f body k g masters (ends (Ended r) e refl)))
 
-        replies : (a : Answer) → firstOf (requestFaults es f body) ≡ a → is (f .command) K.Disconnect ≡ false → KeepsS (deliver f body) (takeRequest es t f body)
+        replies : (a : Answer) → firstOf (requestFaults es f body) ≡ a → is (f .command) K.Disconnect ≡ false
+            → KeepsS (deliver f body) (takeRequest es t f body)
         replies Done e q =
             let d = request-done es t f body q e in
-            subst (KeepsS (deliver f body)) (sym (d .comes)) (S.advanced-s c sm ss p t lim L f body k g masters (d .above) d x n q)
+            subst (KeepsS (deliver f body)) (sym (d .comes))
+            (S.advanced-s c sm ss p t lim L f body k g masters (d .above) d x n q)
         replies (Dropped r) e q = rw e (silent-s (deliver f body) (Dropped r) es L)
-        replies (Ended r) e q = rw (e, q) (S.unequal-s c sm ss p t lim L f body k g masters (ends (Ended r) e refl) true n)
+        replies (Ended r) e q = rw (e, q)
+            (S.unequal-s c sm ss p t lim L f body k g masters (ends (Ended r) e refl) true n)
 
     pub at-slave : (call : Call) → mayDeliver l call ≡ true
-        → Linked c sm ss (t + c .slave) (l ++ logged true (t + c .slave) call (callOf es t call .writes)) em (callOf es t call .endpoint) tm
+        → Linked c sm ss (t + c .slave) (l ++ logged true (t + c .slave) call (callOf es t call .writes)) em
+        (callOf es t call .endpoint) tm
         (tookBy l call (callOf es t call .answer) ts)
         × (ts ≤ tookBy l call (callOf es t call .answer) ts)
     unfolding Keeps Kept
     at-slave call h =
         bcase (isExpired es t)
-        (λ x. rw x (expired true (t + c .slave) t l es ts AtS L (S.ended-s c sm ss p t lim L) (λ q. absurd (true≢false (sym slave-role ∙ q))) (S.restarted-s c sm ss p t lim L) call))
-        (λ x. rw x (acted true (t + c .slave) t l es ts AtS L (S.ended-s c sm ss p t lim L) (λ q. absurd (true≢false (sym slave-role ∙ q))) (S.restarted-s c sm ss p t lim L)
+        (λ x. rw x (expired true (t + c .slave) t l es ts AtS L (S.ended-s c sm ss p t lim L)
+        (λ q. absurd (true≢false (sym slave-role ∙ q))) (S.restarted-s c sm ss p t lim L) call))
+        (λ x. rw x (acted true (t + c .slave) t l es ts AtS L (S.ended-s c sm ss p t lim L)
+        (λ q. absurd (true≢false (sym slave-role ∙ q))) (S.restarted-s c sm ss p t lim L)
         (λ value d. sent-s value d) stopped-s
         (λ f body k g q r d.
         let o = other-bit (f .application) (es .settings .slave) q ∙ ap not slave-role in

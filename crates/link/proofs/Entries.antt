@@ -57,7 +57,8 @@ pub honest-snoc : (l : List Entry) (w : Entry) → ((i : ℕ) → i < length l �
 honest-snoc l w f h i k =
     elim (decLt i (length l)) [
       | yes g ↦ subst Honest (sym (entry-old l w i g)) (f i g)
-      | no g ↦ let e : i ≡ length l = omega (arith, longer l w) in subst Honest (sym (ap (entryAt (l ++ (w ∷ []))) e ∙ entry-new l w)) h
+      | no g ↦ let e : i ≡ length l = omega (arith, longer l w) in subst Honest
+          (sym (ap (entryAt (l ++ (w ∷ []))) e ∙ entry-new l w)) h
     ]
 
 -- ---- equal fields
@@ -74,7 +75,8 @@ session-eq : (a b : Session) → eqb (sessionBits a) (sessionBits b) ≡ true �
 session-eq Absent Absent h = refl
 session-eq Absent (Number n) h = let z = eqb-true 0 (65536 + n) h in absurd (omega arith)
 session-eq (Number n) Absent h = let z = eqb-true (65536 + n) 0 h in absurd (omega arith)
-session-eq (Number n) (Number m) h = let z = eqb-true (65536 + n) (65536 + m) h in let y : n ≡ m = omega arith in ap Number y
+session-eq (Number n) (Number m) h = let z = eqb-true (65536 + n) (65536 + m) h in let y : n ≡ m = omega arith in ap
+    Number y
 
 pub fields-eq : (f g : Fields) → sameFields f g ≡ true → f ≡ g
 unfolding sameFields
@@ -94,7 +96,8 @@ fields-eq f g h =
     let p3 = beq-eq (f .error) (g .error) (and-left (Bool·beq (f .error) (g .error)) _ h3) in
     let p4 = beq-eq (f .sequence) (g .sequence) (and-left (Bool·beq (f .sequence) (g .sequence)) _ h4) in
     let p5 = beq-eq (f .application) (g .application) (and-left (Bool·beq (f .application) (g .application)) _ h5) in
-    let p6 = session-eq (f .session) (g .session) (and-left (eqb (sessionBits (f .session)) (sessionBits (g .session))) _ h6) in
+    let p6 = session-eq (f .session) (g .session)
+    (and-left (eqb (sessionBits (f .session)) (sessionBits (g .session))) _ h6) in
     let p7 = eqb-true (f .connection) (g .connection) (and-left (eqb (f .connection) (g .connection)) _ h7) in
     let p8 = eqb-true (f .timestamp) (g .timestamp) (and-left (eqb (f .timestamp) (g .timestamp)) _ h8) in
     let p9 = eqb-true (f .baseline) (g .baseline) h9 in
@@ -123,9 +126,11 @@ pub data Found (f : Fields) (body : List ℕ) (l : List Entry) (n found last : �
   here : (k : ℕ) → last ≡ suc (n + k) → FoundAt f body l k → Found f body l n found last
 
 further : (f : Fields) (body : List ℕ) (w : Entry) (l : List Entry) (n found last : ℕ) (b : Bool)
-    → (sameFields f (w .fields) && same body (w .body)) ≡ b → Found f body l (suc n) (cond b (suc n) found) last → Found f body (w ∷ l) n found last
+    → (sameFields f (w .fields) && same body (w .body)) ≡ b → Found f body l (suc n) (cond b (suc n) found) last
+    → Found f body (w ∷ l) n found last
 unfolding entryAt
-further f body w l n found last b h (here k e p) = here (suc k) (omega arith) (record { there = le-suc (p .there); fields = p .fields; bodies = p .bodies })
+further f body w l n found last b h (here k e p) = here (suc k) (omega arith)
+    (record { there = le-suc (p .there); fields = p .fields; bodies = p .bodies })
   where
     le-suc : {i j : ℕ} → i < j → suc i < suc j
     le-suc {i} {j} g = omega arith
@@ -137,7 +142,8 @@ further f body w l n found last true h (before e) =
     })
 further f body w l n found last false h (before e) = before e
 
-found-from : (f : Fields) (body : List ℕ) (l : List Entry) (n found : ℕ) → Found f body l n found (lastFrom n f body l found)
+found-from : (f : Fields) (body : List ℕ) (l : List Entry) (n found : ℕ)
+    → Found f body l n found (lastFrom n f body l found)
 unfolding lastFrom
 found-from f body [] n found = before refl
 found-from f body (w ∷ l) n found =
@@ -157,10 +163,12 @@ module _ (f : Fields) (body : List ℕ) (l : List Entry) (k : ℕ) (g : FoundAt 
   pub in-log : k < size (marks l)
   in-log = let z = g .there in let y = size-marks l in omega arith
 
-  pub the-mark : at (marks l) k ≡ mark (whoOf f) (codeOf (f .command)) (f .timestamp) (f .baseline) (entryAt l k .moment) body
+  pub the-mark : at (marks l) k ≡ mark (whoOf f) (codeOf (f .command)) (f .timestamp) (f .baseline)
+      (entryAt l k .moment) body
   the-mark =
       at-marks l k (g .there)
-      ∙ (λ i. mark (whoOf (g .fields i)) (codeOf (g .fields i .command)) (g .fields i .timestamp) (g .fields i .baseline) (entryAt l k .moment) (g .bodies i))
+      ∙ (λ i. mark (whoOf (g .fields i)) (codeOf (g .fields i .command)) (g .fields i .timestamp)
+      (g .fields i .baseline) (entryAt l k .moment) (g .bodies i))
 
   pub marked-code : at (marks l) k .code ≡ codeOf (f .command)
   marked-code = ap (λ (y : Mark). y .code) the-mark

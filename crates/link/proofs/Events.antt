@@ -1,5 +1,6 @@
--- One call at either end: what it comes to, by cases on the call and its answer. The end is a parameter: K is what is to be kept,
--- of the log, the endpoint and the place last taken; the rest says that each of the endpoint's steps keeps it.
+-- One call at either end: what it comes to, by cases on the call and its answer. The end is a parameter: K is what is
+-- to be kept, of the log, the endpoint and the place last taken; the rest says that each of the endpoint's steps
+-- keeps it.
 use mathlib.Core.Path.{_≡_, refl, sym, ap, subst, _∙_}
 use mathlib.Core.Bool.{Bool, true, false, _&&_, not, cond, Bool·beq, true≢false, false≢true}
 use mathlib.Core.List.{List, [], _∷_, _++_, append-nil}
@@ -30,7 +31,8 @@ use Rattle.link.specs.Runs.{Call, start, send, deliver, stop, restart, s
 use Rattle.link.proofs.Entries.{FoundAt, found-at}
 
 -- ---- send and stop are done or dropped
-send-cases : (P : Outcome → Type 0) (e : Endpoint) (t : ℕ) (value : List ℕ) → (sendOf e t value .answer ≡ Done → P (sendOf e t value))
+send-cases : (P : Outcome → Type 0) (e : Endpoint) (t : ℕ) (value : List ℕ)
+    → (sendOf e t value .answer ≡ Done → P (sendOf e t value))
     → ((a : Answer) → P (dropped e a)) → P (sendOf e t value)
 send-cases P e t value p q =
     let a = firstOf (sendFaults e t (length value)) in
@@ -38,7 +40,8 @@ send-cases P e t value p q =
     (λ h. p (ap (λ (o : Outcome). o .answer) (cond-false (isDropped a) (dropped e a) (sentOf e t value) h)
     ∙ bcase (isState (e .state) Refresh) (λ k. rw k) (λ k. rw k)))
 
-stop-cases : (P : Outcome → Type 0) (e : Endpoint) (t : ℕ) → (stopOf e t .answer ≡ Done → P (stopOf e t)) → ((a : Answer) → P (dropped e a))
+stop-cases : (P : Outcome → Type 0) (e : Endpoint) (t : ℕ) → (stopOf e t .answer ≡ Done → P (stopOf e t))
+    → ((a : Answer) → P (dropped e a))
     → P (stopOf e t)
 stop-cases P e t p q =
     let a = firstOf (stopFaults e t) in
@@ -48,7 +51,8 @@ stop-cases P e t p q =
 -- ---- an S-Refresh is taken, dropped, or ends the connection
 refresh-cases : (P : Outcome → Type 0) (e : Endpoint) (t stamp : ℕ) (body : List ℕ)
     → (takeRefresh e t stamp body .answer ≡ Done → P (outcome Done (refreshedOf e t stamp (paddedOf body)) nothing))
-    → ((r : Reason) → P (outcome (Dropped r) e nothing)) → ((r : Reason) → P (outcome (Ended r) (endedOf e) nothing)) → P (takeRefresh e t stamp body)
+    → ((r : Reason) → P (outcome (Dropped r) e nothing)) → ((r : Reason) → P (outcome (Ended r) (endedOf e) nothing))
+    → P (takeRefresh e t stamp body)
 refresh-cases P e t stamp body p q r = go (firstOf (refreshFaults e t stamp (length body))) refl
   where
     go : (a : Answer) → firstOf (refreshFaults e t stamp (length body)) ≡ a → P (takeRefresh e t stamp body)
@@ -72,10 +76,12 @@ module _ (slave : Bool) (m t : ℕ) (l : List Entry) (e : Endpoint) (took : ℕ)
   -- what any call keeps, and what was taken never falls
   unfoldable pub Kept : Call → Outcome → Type 0
   Kept call o =
-      K (l ++ logged slave m call (o .writes)) (o .endpoint) (tookBy l call (o .answer) took) × (took ≤ tookBy l call (o .answer) took)
+      K (l ++ logged slave m call (o .writes)) (o .endpoint) (tookBy l call (o .answer) took)
+      × (took ≤ tookBy l call (o .answer) took)
 
   -- a frame that is no S-Refresh, or was not done, leaves what was taken
-  not-taken : (f : Fields) (body : List ℕ) (o : Outcome) → (isDone (o .answer) && is (f .command) K′.Refresh) ≡ false → Keeps (deliver f body) o
+  not-taken : (f : Fields) (body : List ℕ) (o : Outcome) → (isDone (o .answer) && is (f .command) K′.Refresh) ≡ false
+      → Keeps (deliver f body) o
       → Kept (deliver f body) o
   unfolding Keeps Kept
   not-taken f body o h k = rw h (k, omega arith)
@@ -86,23 +92,27 @@ module _ (slave : Bool) (m t : ℕ) (l : List Entry) (e : Endpoint) (took : ℕ)
   expired start = (silent start (Ended R.Expired) (endedOf e) ended, omega arith)
   expired (send value) = (silent (send value) (Ended R.Expired) (endedOf e) ended, omega arith)
   expired (deliver f body) =
-      not-taken f body (outcome (Ended R.Expired) (endedOf e) nothing) refl (silent (deliver f body) (Ended R.Expired) (endedOf e) ended)
+      not-taken f body (outcome (Ended R.Expired) (endedOf e) nothing) refl
+      (silent (deliver f body) (Ended R.Expired) (endedOf e) ended)
   expired stop = (silent stop (Ended R.Expired) (endedOf e) ended, omega arith)
   expired restart = (silent restart (Ended R.Expired) (endedOf e) ended, omega arith)
   expired show = (silent show (Ended R.Expired) (endedOf e) ended, omega arith)
 
   module _ (sent : (value : List ℕ) → sendOf e t value .answer ≡ Done → Keeps (send value) (sendOf e t value))
       (stopped : stopOf e t .answer ≡ Done → Keeps stop (stopOf e t))
-      (refreshed : (f : Fields) (body : List ℕ) (k : ℕ) → FoundAt f body l k → Bool·beq (f .application) (e .settings .slave) ≡ false
+      (refreshed : (f : Fields) (body : List ℕ) (k : ℕ) → FoundAt f body l k
+      → Bool·beq (f .application) (e .settings .slave) ≡ false
       → is (f .command) K′.Refresh ≡ true → takeRefresh e t (f .timestamp) body .answer ≡ Done
       → K l (refreshedOf e t (f .timestamp) (paddedOf body)) (suc k) × (took ≤ k))
-      (other : (f : Fields) (body : List ℕ) (k : ℕ) → FoundAt f body l k → Bool·beq (f .application) (e .settings .slave) ≡ false
+      (other : (f : Fields) (body : List ℕ) (k : ℕ) → FoundAt f body l k
+      → Bool·beq (f .application) (e .settings .slave) ≡ false
       → is (f .command) K′.Refresh ≡ false → Keeps (deliver f body) (deliverOf e t f body)) where
     and-false : (a b : Bool) → b ≡ false → (a && b) ≡ false
     and-false true b h = h
     and-false false b h = refl
 
-    delivered : (f : Fields) (body : List ℕ) (k : ℕ) → lastOf f body l ≡ suc k → Kept (deliver f body) (deliverOf e t f body)
+    delivered : (f : Fields) (body : List ℕ) (k : ℕ) → lastOf f body l ≡ suc k
+        → Kept (deliver f body) (deliverOf e t f body)
     unfolding Kept
     delivered f body k q =
         let g = found-at f body l k q in
@@ -115,21 +125,35 @@ module _ (slave : Bool) (m t : ℕ) (l : List Entry) (e : Endpoint) (took : ℕ)
         (λ d.
         let z = refreshed f body k g h r d in
         let w = z .1 in
-        let y : cond (is (f .command) K′.Refresh) (lastOf f body l) took ≡ suc k = cond-true (is (f .command) K′.Refresh) (lastOf f body l) took r ∙ q in
-        (subst (λ (n : ℕ). K (l ++ []) (refreshedOf e t (f .timestamp) (paddedOf body)) n) (sym y) (subst (λ (x : List Entry). K x (refreshedOf e t (f .timestamp) (paddedOf body)) (suc k)) (sym (append-nil l)) (z .0)), omega arith))
+        let y : cond (is (f .command) K′.Refresh) (lastOf f body l) took ≡ suc k = cond-true
+        (is (f .command) K′.Refresh) (lastOf f body l) took r ∙ q in (
+          subst (λ (n : ℕ). K (l ++ []) (refreshedOf e t (f .timestamp) (paddedOf body)) n) (sym y)
+              (subst (λ (x : List Entry). K x (refreshedOf e t (f .timestamp) (paddedOf body)) (suc k))
+              (sym (append-nil l)) (z .0)),
+          omega arith,
+        ))
         (λ x. not-taken f body (outcome (Dropped x) e nothing) refl (silent (deliver f body) (Dropped x) e base))
-        (λ x. not-taken f body (outcome (Ended x) (endedOf e) nothing) refl (silent (deliver f body) (Ended x) (endedOf e) ended))))
-        (λ r. not-taken f body (deliverOf e t f body) (and-false (isDone (deliverOf e t f body .answer)) (is (f .command) K′.Refresh) r) (other f body k g h r)))
+        (λ x. not-taken f body (outcome (Ended x) (endedOf e) nothing) refl
+        (silent (deliver f body) (Ended x) (endedOf e) ended))))
+        (λ r. not-taken f body (deliverOf e t f body)
+        (and-false (isDone (deliverOf e t f body .answer)) (is (f .command) K′.Refresh) r) (other f body k g h r)))
 
     -- every call but a deliver takes nothing
     pub acted : (call : Call) → mayDeliver l call ≡ true → Kept call (actOf e t call)
     unfolding Keeps Kept
     acted start h =
         bcase (not (e .settings .slave) && isState (e .state) Close)
-        (λ k. rw k (silent start Done (startedOf e t) (started (not-true (e .settings .slave) (and-left (not (e .settings .slave)) (isState (e .state) Close) k))), omega arith))
+        (λ k. rw k (
+          silent start Done (startedOf e t)
+              (started (not-true (e .settings .slave)
+              (and-left (not (e .settings .slave)) (isState (e .state) Close) k))),
+          omega arith,
+        ))
         (λ k. rw k (silent start (Dropped R.Turn) e base, omega arith))
-    acted (send value) h = (send-cases (Keeps (send value)) e t value (sent value) (λ a. silent (send value) a e base), omega arith)
-    acted (deliver f body) h = delivered f body (lastOf f body l - 1) (let z = leb-true 1 (lastOf f body l) h in omega arith)
+    acted (send value) h =
+        (send-cases (Keeps (send value)) e t value (sent value) (λ a. silent (send value) a e base), omega arith)
+    acted (deliver f body) h = delivered f body (lastOf f body l - 1)
+        (let z = leb-true 1 (lastOf f body l) h in omega arith)
     acted stop h = (stop-cases (Keeps stop) e t stopped (λ a. silent stop a e base), omega arith)
     acted restart h =
         bcase (isState (e .state) Terminate) (λ k. rw k (silent restart Done (restartedOf e) restarted, omega arith))

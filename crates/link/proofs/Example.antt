@@ -13,7 +13,17 @@ use Rattle.link.specs.Runs.{Clocks, Call, start, send, deliver, stop, re
 use Rattle.link.specs.Fresh.{Paired, runOf}
 
 settings : Bool → Settings
-settings slave = record { connection = 0x01020103; slave = slave; masterwords = 1; slavewords = 1; interval = 100; roundtrip = 50; age = 50; station = 7 }
+settings slave = record {
+  connection = 0x01020103;
+  slave = slave;
+  masterwords = 1;
+  slavewords = 1;
+  interval = 100;
+  roundtrip = 50;
+  age =
+      50;
+  station = 7;
+}
 
 at-master : ℕ → Call → Event
 at-master t call = record { slave = false; clock = t; call = call }
@@ -29,7 +39,8 @@ clocks = record { master = 5000; slave = 0 }
 exchange : ℕ → Command → ℕ → List Event
 exchange t k baseline =
     at-master t (send [])
-    ∷ at-slave (5001 + t) (deliver (plainFields k false false false 0x01020103 t baseline) (setupData (settings false) k))
+    ∷ at-slave (5001 + t)
+    (deliver (plainFields k false false false 0x01020103 t baseline) (setupData (settings false) k))
     ∷ at-master (2 + t) (deliver (plainFields k true false true 0x01020103 t 0) (setupData (settings false) k)) ∷ []
 
 line : List Event

@@ -30,8 +30,8 @@ pub record Small (c : Terms) : Type 0 where
   pub ageM : c .ageM ≤ 65535
   pub ageS : c .ageS ≤ 65535
 
--- the slave's readings and their moments, and how far these may part: while an offset serves, while a value is held or a reply awaited.
--- What follows uses no more of them than pace and elder; document 02's drift changes these lines
+-- the slave's readings and their moments, and how far these may part: while an offset serves, while a value is held
+-- or a reply awaited. What follows uses no more of them than pace and elder; document 02's drift changes these lines
 abbrev pub At : Terms → ℕ → ℕ → Type 0
 At c t m = t + c .cs ≡ m
 
@@ -50,7 +50,8 @@ pace-hold c t m t′ m′ p q = record { up = omega arith; down = omega arith }
 pub elder : (c : Terms) (t m t′ m′ : ℕ) → At c t m → At c t′ m′ → m ≤ m′ → t ≤ t′
 elder c t m t′ m′ p q h = omega arith
 
--- nextOut, nextIn: one above the last stamp sent, taken (0: none); held: one above the place of the S-Refresh last taken
+-- nextOut, nextIn: one above the last stamp sent, taken (0: none); held: one above the place of the S-Refresh last
+-- taken
 pub data MPhase : Type 0 where
   restM : MPhase
   asked : ℕ → ℕ → MPhase

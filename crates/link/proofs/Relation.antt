@@ -56,7 +56,8 @@ abbrev pub whoOf : Fields → ℕ
 whoOf f = cond (f .application) (cond (is (f .command) K.Refresh) 2 1) 0
 
 abbrev pub markOf : Entry → Mark
-markOf w = mark (whoOf (w .fields)) (codeOf (w .fields .command)) (w .fields .timestamp) (w .fields .baseline) (w .moment) (w .body)
+markOf w = mark (whoOf (w .fields)) (codeOf (w .fields .command)) (w .fields .timestamp) (w .fields .baseline)
+    (w .moment) (w .body)
 
 unfoldable pub marks : List Entry → List Mark
 marks l = map markOf l
@@ -120,15 +121,16 @@ pub record Honest (w : Entry) : Type 0 where
   pub writer : w .fields .application ≡ w .slave
   pub value : is (w .fields .command) K.Refresh ≡ true → w .lent ≡ w .body
 
-pub record Linked (c : Clocks) (sm ss : Settings) (now : ℕ) (l : List Entry) (em es : Endpoint) (tm ts : ℕ) : Type 0 where
-  pub master : Master
-  pub slave : Slave
-  pub setM : em .settings ≡ sm
-  pub setS : es .settings ≡ ss
-  pub relM : RelM em tm master
-  pub relS : RelS es ts slave
-  pub honest : (i : ℕ) → i < length l → Honest (entryAt l i)
-  pub inv : Inv (termsOf c sm ss) now (marks l) master slave
+pub record Linked (c : Clocks) (sm ss : Settings) (now : ℕ) (l : List Entry) (em es : Endpoint) (tm ts : ℕ) : Type 0
+  where
+    pub master : Master
+    pub slave : Slave
+    pub setM : em .settings ≡ sm
+    pub setS : es .settings ≡ ss
+    pub relM : RelM em tm master
+    pub relS : RelS es ts slave
+    pub honest : (i : ℕ) → i < length l → Honest (entryAt l i)
+    pub inv : Inv (termsOf c sm ss) now (marks l) master slave
 
 -- ---- timers that have not expired, and times
 in-setup : (a b x y : Bool) → ((a && x) || (b && y)) ≡ false → a ≡ true → x ≡ false
@@ -147,19 +149,22 @@ module _ (e : Endpoint) (t : ℕ) (h : isExpired e t ≡ false) where
   setup-timer p =
       let r = ltb (e .settings .roundtrip) (t - e .since) in
       let i = ltb (e .settings .interval) (t - e .since) in
-      let z = ltb-false (e .settings .roundtrip) (t - e .since) (in-setup (isSetup (e .state)) (isState (e .state) Refresh) r i h p) in
+      let z = ltb-false (e .settings .roundtrip) (t - e .since)
+      (in-setup (isSetup (e .state)) (isState (e .state) Refresh) r i h p) in
       omega arith
 
   pub refresh-timer : isState (e .state) Refresh ≡ true → t ≤ e .since + e .settings .interval
   refresh-timer p =
       let r = ltb (e .settings .roundtrip) (t - e .since) in
       let i = ltb (e .settings .interval) (t - e .since) in
-      let z = ltb-false (e .settings .interval) (t - e .since) (in-refresh (isSetup (e .state)) (isState (e .state) Refresh) r i h p) in
+      let z = ltb-false (e .settings .interval) (t - e .since)
+      (in-refresh (isSetup (e .state)) (isState (e .state) Refresh) r i h p) in
       omega arith
 
 pub master-time : (e : Endpoint) (t : ℕ) → e .settings .slave ≡ false → t ≤ clockLimit → timeOf e t ≡ t
 master-time e t h k =
-    let p : masterTime (e .settings .slave) (e .setup .offset) t ≡ (t + 0) % span = ap (λ (b : Bool). masterTime b (e .setup .offset) t) h in
+    let p : masterTime (e .settings .slave) (e .setup .offset) t ≡ (t + 0) % span = ap
+    (λ (b : Bool). masterTime b (e .setup .offset) t) h in
     p ∙ omega arith
 
 pub slave-time : (e : Endpoint) (t : ℕ) → e .settings .slave ≡ true → timeOf e t ≡ (t + e .setup .offset) % span
@@ -174,7 +179,8 @@ pub young-of : (age allowance limit age′ allowance′ limit′ : ℕ) → age 
     → isTooFarAhead age allowance ≡ false → isTooLate age limit ≡ false → Young age′ allowance′ limit′
 young-of age allowance limit age′ allowance′ limit′ p q r far late = record {
   early = λ h.
-      let z = ltb-false allowance (span - age) (late-false (isAhead age) (ltb allowance (span - age)) far (le-leb half age (omega arith))) in
+      let z = ltb-false allowance (span - age)
+      (late-false (isAhead age) (ltb allowance (span - age)) far (le-leb half age (omega arith))) in
       omega arith;
   late = λ h.
       let y : not (isAhead age) ≡ true = ap not (lt-leb half age (omega arith)) in

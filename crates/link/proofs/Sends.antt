@@ -31,7 +31,8 @@ pub record Sent (sm ss : Settings) (log : List Entry) (x : Show) : Type 0 where
 pub record ShowsInv (sm ss : Settings) (log : List Entry) (tm ts : ℕ) (shows : List Show) : Type 0 where
   pub its : (i : ℕ) → i < length shows → Sent sm ss log (showAt shows i)
   pub below : (i : ℕ) → i < length shows → showAt shows i .sent ≤ cond (showAt shows i .slave) ts tm
-  pub order : (i j : ℕ) → i < j → j < length shows → showAt shows i .slave ≡ showAt shows j .slave → showAt shows i .sent ≤ showAt shows j .sent
+  pub order : (i j : ℕ) → i < j → j < length shows → showAt shows i .slave ≡ showAt shows j .slave
+      → showAt shows i .sent ≤ showAt shows j .sent
 
 entry-kept : (log ext : List Entry) (i : ℕ) → i < length log → entryAt (log ++ ext) i ≡ entryAt log i
 unfolding entryAt
@@ -56,7 +57,8 @@ module _ (sm ss : Settings) where
           sent = s .sent;
           early = s .early;
           known = omega arith;
-          fits = subst (ItsSend (boundOf (cond (showAt shows i .slave) ss sm)) (showAt shows i)) (sym (entry-kept log ext (s .place) (omega arith))) (s .fits);
+          fits = subst (ItsSend (boundOf (cond (showAt shows i .slave) ss sm)) (showAt shows i))
+              (sym (entry-kept log ext (s .place) (omega arith))) (s .fits);
         };
     below = λ i j. let a = v .below i j in let b = cond-le (showAt shows i .slave) ts ts′ tm tm′ k h in omega arith;
     order = v .order;
@@ -75,15 +77,18 @@ module _ (sm ss : Settings) where
     unfolding showAt
     show-new = getD-append-seam shows x [] noShow
 
-    each-show : (P : Show → Type 0) → ((i : ℕ) → i < length shows → P (showAt shows i)) → P x → (i : ℕ) → i < length (shows ++ (x ∷ []))
+    each-show : (P : Show → Type 0) → ((i : ℕ) → i < length shows → P (showAt shows i)) → P x → (i : ℕ)
+        → i < length (shows ++ (x ∷ []))
         → P (showAt (shows ++ (x ∷ [])) i)
     each-show P f p i h =
         elim (decLt i (length shows)) [
           | yes g ↦ subst P (sym (show-old i g)) (f i g)
-          | no g ↦ let e : i ≡ length shows = omega (arith, longer) in subst P (sym (ap (showAt (shows ++ (x ∷ []))) e ∙ show-new)) p
+          | no g ↦ let e : i ≡ length shows = omega (arith, longer) in subst P
+              (sym (ap (showAt (shows ++ (x ∷ []))) e ∙ show-new)) p
         ]
 
-    pub add : Sent sm ss log x → x .sent ≡ cond (x .slave) ts tm → ShowsInv sm ss log tm ts shows → ShowsInv sm ss log tm ts (shows ++ (x ∷ []))
+    pub add : Sent sm ss log x → x .sent ≡ cond (x .slave) ts tm → ShowsInv sm ss log tm ts shows
+        → ShowsInv sm ss log tm ts (shows ++ (x ∷ []))
     add s e v = record {
       its = each-show (Sent sm ss log) (v .its) s;
       below = each-show (λ (y : Show). y .sent ≤ cond (y .slave) ts tm) (v .below) (omega arith);
@@ -93,7 +98,8 @@ module _ (sm ss : Settings) where
         last : (i : ℕ) → i < length shows → showAt shows i .slave ≡ x .slave → showAt shows i .sent ≤ x .sent
         last i h q = let b = subst (λ (y : Bool). showAt shows i .sent ≤ cond y ts tm) q (v .below i h) in omega arith
 
-        ordered : (i j : ℕ) → i < j → j < length (shows ++ (x ∷ [])) → showAt (shows ++ (x ∷ [])) i .slave ≡ showAt (shows ++ (x ∷ [])) j .slave
+        ordered : (i j : ℕ) → i < j → j < length (shows ++ (x ∷ []))
+            → showAt (shows ++ (x ∷ [])) i .slave ≡ showAt (shows ++ (x ∷ [])) j .slave
             → showAt (shows ++ (x ∷ [])) i .sent ≤ showAt (shows ++ (x ∷ [])) j .sent
         ordered i j h k q =
             elim (decLt j (length shows)) [
@@ -129,7 +135,8 @@ pub writer-of : (slave : Bool) (f : Fields) → whoOf f ≡ cond slave 0 2 → f
 writer-of true f h = kind-slave (f .application) (is (f .command) K.Refresh) h
 writer-of false f h = kind-master (f .application) (is (f .command) K.Refresh) h
 
-pub sent-by : (sm ss : Settings) (log : List Entry) (slave : Bool) (took m : ℕ) (bytes : List ℕ) → ((i : ℕ) → i < length log → Honest (entryAt log i))
+pub sent-by : (sm ss : Settings) (log : List Entry) (slave : Bool) (took m : ℕ) (bytes : List ℕ)
+    → ((i : ℕ) → i < length log → Honest (entryAt log i))
     → ShownAt (marks log) (cond slave 0 2) took m (boundOf (cond slave ss sm)) bytes
     → Sent sm ss log (record { slave = slave; moment = m; bytes = bytes; sent = took; written = length log })
 sent-by sm ss log slave took m bytes honest s =

@@ -33,17 +33,20 @@ pub record ShownAt (l : List Mark) (kind took m bound : ℕ) (v : List ℕ) : Ty
   pub young : m ≤ at l place .moment + bound
 
 pub in-refresh : (e : Endpoint) → isFailSafe e ≡ false → isState (e .state) Refresh ≡ true
-in-refresh e h = and-left (isState (e .state) Refresh) (e .value .taken) (not-false (isState (e .state) Refresh && e .value .taken) h)
+in-refresh e h = and-left (isState (e .state) Refresh) (e .value .taken)
+    (not-false (isState (e .state) Refresh && e .value .taken) h)
 
 pub is-taken : (e : Endpoint) → isFailSafe e ≡ false → e .value .taken ≡ true
-is-taken e h = and-right (isState (e .state) Refresh) (e .value .taken) (not-false (isState (e .state) Refresh && e .value .taken) h)
+is-taken e h = and-right (isState (e .state) Refresh) (e .value .taken)
+    (not-false (isState (e .state) Refresh && e .value .taken) h)
 
 front-padded : (b : List ℕ) (n : ℕ) → length b ≡ n → n ≤ 100 → take n (paddedOf b) ≡ b
 front-padded b n e h =
     ap (λ (x : List ℕ). take n (x ++ drop (length b) (replicate 100 0))) (take-all 100 b (omega arith))
     ∙ take-at b (drop (length b) (replicate 100 0)) n e
 
-pub shown-is : (e : Endpoint) (b : List ℕ) → isFailSafe e ≡ false → Holds (e .settings) (e .value) (some b) → shownOf e ≡ b
+pub shown-is : (e : Endpoint) (b : List ℕ) → isFailSafe e ≡ false → Holds (e .settings) (e .value) (some b)
+    → shownOf e ≡ b
 shown-is e b h v =
     ap (λ (x : Bool). take (showWidth (e .settings)) (heldOr x (e .value .bytes))) h
     ∙ ap (take (showWidth (e .settings))) (v .1)

@@ -24,7 +24,8 @@ use Rattle.steps.proofs.Keeps.{bcase}
 use Rattle.steps.proofs.Whole.{request-writable, refresh-writable, disconnect-writable, reply-writable, send-width-length, setup-length}
 
 -- a send that is not dropped, outside Refresh, is a request
-pub may-request : (e : Endpoint) (t n : ℕ) → isState (e .state) Refresh ≡ false → isDropped (firstOf (sendFaults e t n)) ≡ false
+pub may-request : (e : Endpoint) (t n : ℕ) → isState (e .state) Refresh ≡ false
+    → isDropped (firstOf (sendFaults e t n)) ≡ false
     → mayRequest e ≡ true
 may-request e t n k h =
     let w : (isState (e .state) Refresh || mayRequest e) ≡ true =
@@ -32,7 +33,8 @@ may-request e t n k h =
     rw k at w
 
 pub master-requests : (e : Endpoint) → mayRequest e ≡ true → e .settings .slave ≡ false
-master-requests e h = not-true (e .settings .slave) (and-left (not (e .settings .slave)) (isSetup (e .state) && isNothing (e .setup .pending)) h)
+master-requests e h = not-true (e .settings .slave)
+    (and-left (not (e .settings .slave)) (isSetup (e .state) && isNothing (e .setup .pending)) h)
 
 module _ (e : Endpoint) (t : ℕ) where
   pub send-carries : (value : List ℕ) → Carries e (sendOf e t value .writes)
@@ -57,7 +59,8 @@ module _ (e : Endpoint) (t : ℕ) where
       bcase (isDropped a || is (f .command) K.Disconnect) (λ h. rw h tt)
       (λ h.
       let n = neither (isDropped a) (is (f .command) K.Disconnect) h in
-      let l : isBodyLength (length body) ≡ true = rw (request-width e f body (n .0)) (setup-length (e .settings) (f .command)) in
+      let l : isBodyLength (length body) ≡ true = rw (request-width e f body (n .0))
+      (setup-length (e .settings) (f .command)) in
       rw h (reply-writable e t f (isEnded a) (length body) k (n .1) l, refl, sym m))
 
   pub deliver-carries : (f : Fields) (body : List ℕ) → Carries e (deliverOf e t f body .writes)
@@ -67,5 +70,6 @@ module _ (e : Endpoint) (t : ℕ) where
       (λ h. bcase (is (f .command) K.Refresh)
       (λ k. subst (λ (o : Outcome). Carries e (o .writes)) (sym (deliver-refresh e t f body h k)) tt)
       (λ k. bcase (e .settings .slave)
-      (λ m. subst (λ (o : Outcome). Carries e (o .writes)) (sym (deliver-request e t f body h k m)) (request-carries f body k m))
+      (λ m. subst (λ (o : Outcome). Carries e (o .writes)) (sym (deliver-request e t f body h k m))
+      (request-carries f body k m))
       (λ m. subst (λ (o : Outcome). Carries e (o .writes)) (sym (deliver-reply e t f body h k m)) tt)))

@@ -14,7 +14,8 @@ one-more : (s d : List ℕ) (i : ℕ) → i < length s → i < length d
 one-more [] d i h k = absurd (not-suc-le-zero h)
 one-more (x ∷ s) [] i h k = absurd (not-suc-le-zero k)
 one-more (x ∷ s) (y ∷ d) zero h k = refl
-one-more (x ∷ s) (y ∷ d) (suc i) h k = ap (λ (l : List ℕ). x ∷ l) (one-more s d i (le-of-suc-le-suc h) (le-of-suc-le-suc k))
+one-more (x ∷ s) (y ∷ d) (suc i) h k = ap (λ (l : List ℕ). x ∷ l)
+    (one-more s d i (le-of-suc-le-suc h) (le-of-suc-le-suc k))
 
 pub copy-step : (s d l : List ℕ) (i : ℕ) → l ≡ take i s ++ drop i d → i < length s → i < length d
     → set l i (getD s i 0) ≡ take (i + 1) s ++ drop (i + 1) d

@@ -19,15 +19,18 @@ pub cond-false : {A : Type 0} (b : Bool) (x y : A) → b ≡ false → cond b x 
 cond-false b x y h = rw h
 
 module _ (e : Endpoint) (t : ℕ) (f : Fields) (body : List ℕ) where
-  pub deliver-echo : Bool·beq (f .application) (e .settings .slave) ≡ true → deliverOf e t f body ≡ dropped e (Dropped R.Echo)
+  pub deliver-echo : Bool·beq (f .application) (e .settings .slave) ≡ true
+      → deliverOf e t f body ≡ dropped e (Dropped R.Echo)
   deliver-echo h = cond-true _ _ _ h
 
   module _ (h : Bool·beq (f .application) (e .settings .slave) ≡ false) where
     pub deliver-refresh : is (f .command) K.Refresh ≡ true → deliverOf e t f body ≡ takeRefresh e t (f .timestamp) body
     deliver-refresh k = cond-false _ _ _ h ∙ cond-true _ _ _ k
 
-    pub deliver-request : is (f .command) K.Refresh ≡ false → e .settings .slave ≡ true → deliverOf e t f body ≡ takeRequest e t f body
+    pub deliver-request : is (f .command) K.Refresh ≡ false → e .settings .slave ≡ true
+        → deliverOf e t f body ≡ takeRequest e t f body
     deliver-request k s = cond-false _ _ _ h ∙ cond-false _ _ _ k ∙ cond-true _ _ _ s
 
-    pub deliver-reply : is (f .command) K.Refresh ≡ false → e .settings .slave ≡ false → deliverOf e t f body ≡ takeReply e t f body
+    pub deliver-reply : is (f .command) K.Refresh ≡ false → e .settings .slave ≡ false
+        → deliverOf e t f body ≡ takeReply e t f body
     deliver-reply k s = cond-false _ _ _ h ∙ cond-false _ _ _ k ∙ cond-false _ _ _ s

@@ -62,10 +62,12 @@ module _ (e : Endpoint) (t : ℕ) where
 
   pub restart-done : restartOf e .answer ≡ Done → RestartDone e
   restart-done d =
-      bcase (isState (e .state) Terminate) (λ h. record { terminated = h; comes = rw h }) (λ h. absurd (not-done R.Turn (rw h at d)))
+      bcase (isState (e .state) Terminate) (λ h. record { terminated = h; comes = rw h })
+      (λ h. absurd (not-done R.Turn (rw h at d)))
 
   -- ---- send
-  above-sent : (n : ℕ) → isDropped (firstOf (sendFaults e t n)) ≡ false → isAbove (e .timestamps .sent) (timeOf e t) ≡ true
+  above-sent : (n : ℕ) → isDropped (firstOf (sendFaults e t n)) ≡ false
+      → isAbove (e .timestamps .sent) (timeOf e t) ≡ true
   above-sent n h = not-false (isAbove (e .timestamps .sent) (timeOf e t)) (not-soon (sendFaults e t n) refl refl h)
 
   pub send-done : (value : List ℕ) → sendOf e t value .answer ≡ Done → RefreshSent e t value ⊎ RequestSent e t value
@@ -86,7 +88,8 @@ module _ (e : Endpoint) (t : ℕ) where
         comes = rw (h, k);
       })))
 
-  pub send-dropped : (value : List ℕ) (r : Reason) → sendOf e t value .answer ≡ Dropped r → sendOf e t value ≡ dropped e (Dropped r)
+  pub send-dropped : (value : List ℕ) (r : Reason) → sendOf e t value .answer ≡ Dropped r
+      → sendOf e t value ≡ dropped e (Dropped r)
   send-dropped value r d =
       let a = firstOf (sendFaults e t (length value)) in
       bcase (isDropped a) (λ h. let p : a ≡ Dropped r = rw h at d in rw h (ap (dropped e) p))
@@ -101,7 +104,8 @@ module _ (e : Endpoint) (t : ℕ) where
       let above = isAbove (e .timestamps .sent) (timeOf e t) in
       bcase (isDropped a) (λ h. absurd (dropped-not-done a h (rw h at d)))
       (λ h.
-      let n = neither (isState (e .state) Close) (isState (e .state) Terminate) (not-dropped (stopFaults e t) h .turn) in
+      let n = neither (isState (e .state) Close) (isState (e .state) Terminate)
+      (not-dropped (stopFaults e t) h .turn) in
       let s : (not (e .settings .slave) && not above) ≡ false = not-soon (stopFaults e t) refl refl h in
       record {
         begun = n .0;
@@ -117,10 +121,12 @@ module _ (e : Endpoint) (t : ℕ) where
   pub stop-dropped : (r : Reason) → stopOf e t .answer ≡ Dropped r → stopOf e t ≡ dropped e (Dropped r)
   stop-dropped r d =
       let a = firstOf (stopFaults e t) in
-      bcase (isDropped a) (λ h. let p : a ≡ Dropped r = rw h at d in rw h (ap (dropped e) p)) (λ h. absurd (not-done r (sym (rw h at d))))
+      bcase (isDropped a) (λ h. let p : a ≡ Dropped r = rw h at d in rw h (ap (dropped e) p))
+      (λ h. absurd (not-done r (sym (rw h at d))))
 
   -- ---- deliver
-  pub refresh-done : (stamp : ℕ) (body : List ℕ) → takeRefresh e t stamp body .answer ≡ Done → RefreshTaken e t stamp body
+  pub refresh-done : (stamp : ℕ) (body : List ℕ) → takeRefresh e t stamp body .answer ≡ Done
+      → RefreshTaken e t stamp body
   refresh-done stamp body d =
       let f = first-done (refreshFaults e t stamp (length body)) d in
       let w = eqb (length body) (showWidth (e .settings)) in
@@ -133,7 +139,8 @@ module _ (e : Endpoint) (t : ℕ) where
         comes = rw d;
       }
 
-  pub request-done : (f : Fields) (body : List ℕ) → is (f .command) K.Disconnect ≡ false → takeRequest e t f body .answer ≡ Done
+  pub request-done : (f : Fields) (body : List ℕ) → is (f .command) K.Disconnect ≡ false
+      → takeRequest e t f body .answer ≡ Done
       → RequestTaken e t f body
   request-done f body k d =
       let n = first-done (requestFaults e f body) d in
@@ -146,7 +153,8 @@ module _ (e : Endpoint) (t : ℕ) where
         comes = rw (d, k);
       }
 
-  pub disconnect-done : (f : Fields) (body : List ℕ) → is (f .command) K.Disconnect ≡ true → takeRequest e t f body .answer ≡ Done
+  pub disconnect-done : (f : Fields) (body : List ℕ) → is (f .command) K.Disconnect ≡ true
+      → takeRequest e t f body .answer ≡ Done
       → DisconnectTaken e t f body
   disconnect-done f body k d =
       let n = first-done (requestFaults e f body) d in
@@ -168,8 +176,10 @@ module _ (e : Endpoint) (t : ℕ) where
       let u = neither (f .error) (not s) (n .unequal) in
       record {
         setup = and-left x y turn;
-        pending = answers-is (e .setup .pending) (f .timestamp) (not-false (answersTo (e .setup .pending) (f .timestamp)) (n .repeat));
-        command = and-right (isAsked (e .setup .pending)) (is (f .command) due) (and-right (f .ack) z (and-right x y turn));
+        pending = answers-is (e .setup .pending) (f .timestamp)
+            (not-false (answersTo (e .setup .pending) (f .timestamp)) (n .repeat));
+        command = and-right (isAsked (e .setup .pending)) (is (f .command) due)
+            (and-right (f .ack) z (and-right x y turn));
         sound = u .0;
         contents = same-eq body (setupData (e .settings) due) (not-false s (u .1));
         comes = rw d;
@@ -183,7 +193,8 @@ module _ (e : Endpoint) (t : ℕ) where
       (λ h. bcase (is (f .command) K.Refresh)
       (λ k.
       let q = deliver-refresh e t f body h k in
-      let p : firstOf (refreshFaults e t (f .timestamp) (length body)) ≡ Dropped r = sym (ap (λ (o : Outcome). o .answer) q) ∙ d in
+      let p : firstOf (refreshFaults e t (f .timestamp) (length body)) ≡ Dropped r = sym
+      (ap (λ (o : Outcome). o .answer) q) ∙ d in
       q ∙ rw p)
       (λ k. bcase (e .settings .slave)
       (λ m.

@@ -22,7 +22,8 @@ use Rattle.steps.specs.Calls.{sendFaults}
 use Rattle.steps.specs.Deliveries.{requestFaults}
 
 -- an answer that is not dropped is past each test that drops
-past : (b : Bool) (r : Reason) (x : Answer) → isDropped (cond b (Dropped r) x) ≡ false → (b ≡ false) × (isDropped x ≡ false)
+past : (b : Bool) (r : Reason) (x : Answer) → isDropped (cond b (Dropped r) x) ≡ false → (b ≡ false)
+    × (isDropped x ≡ false)
 past true r x h = absurd (true≢false h)
 past false r x h = (refl, h)
 
@@ -80,10 +81,12 @@ first-done f h =
 
 -- ---- the length of what is sent and taken
 -- a send in Refresh that is not dropped has a value of the right length
-pub sent-width : (e : Endpoint) (t n : ℕ) → isState (e .state) Refresh ≡ true → isDropped (firstOf (sendFaults e t n)) ≡ false
+pub sent-width : (e : Endpoint) (t n : ℕ) → isState (e .state) Refresh ≡ true
+    → isDropped (firstOf (sendFaults e t n)) ≡ false
     → n ≡ sendWidth (e .settings)
 sent-width e t n r h =
-    let w : (isState (e .state) Refresh && not (eqb n (sendWidth (e .settings)))) ≡ false = not-dropped (sendFaults e t n) h .width in
+    let w : (isState (e .state) Refresh && not (eqb n (sendWidth (e .settings)))) ≡ false = not-dropped
+    (sendFaults e t n) h .width in
     let v : not (eqb n (sendWidth (e .settings))) ≡ false = rw r at w in
     eqb-true n (sendWidth (e .settings)) (not-false (eqb n (sendWidth (e .settings))) v)
 

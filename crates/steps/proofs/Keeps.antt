@@ -30,7 +30,8 @@ left-keeps s Done x y z p q r = r
 left-keeps s (Dropped n) x y z p q r = p
 left-keeps s (Ended n) x y z p q r = q
 
-taken-keeps : (e : Endpoint) (t : ℕ) (f : Fields) (b : Bool) → cond b (endedBy e (f .timestamp)) (advancedOf e t f) .settings ≡ e .settings
+taken-keeps : (e : Endpoint) (t : ℕ) (f : Fields) (b : Bool)
+    → cond b (endedBy e (f .timestamp)) (advancedOf e t f) .settings ≡ e .settings
 taken-keeps e t f true = refl
 taken-keeps e t f false = refl
 
@@ -53,13 +54,15 @@ module _ (e : Endpoint) (t : ℕ) where
   deliver-keeps f body =
       let s = e .settings in
       let p : takeRefresh e t (f .timestamp) body .endpoint .settings ≡ s =
-      left-keeps s (firstOf (refreshFaults e t (f .timestamp) (length body))) e (endedOf e) (refreshedOf e t (f .timestamp) (paddedOf body)) refl refl refl in
+      left-keeps s (firstOf (refreshFaults e t (f .timestamp) (length body))) e (endedOf e)
+      (refreshedOf e t (f .timestamp) (paddedOf body)) refl refl refl in
       let q : takeRequest e t f body .endpoint .settings ≡ s =
       left-keeps s (firstOf (requestFaults e f body)) e (endedBy e (f .timestamp)) (takenOf e t f) refl refl
       (taken-keeps e t f (is (f .command) K.Disconnect)) in
       let r : takeReply e t f body .endpoint .settings ≡ s =
       left-keeps s (firstOf (replyFaults e f body)) e (endedOf e) (confirmedOf e t) refl refl refl in
-      bcase (Bool·beq (f .application) (e .settings .slave)) (λ h. ap (λ (o : Outcome). o .endpoint .settings) (deliver-echo e t f body h))
+      bcase (Bool·beq (f .application) (e .settings .slave))
+      (λ h. ap (λ (o : Outcome). o .endpoint .settings) (deliver-echo e t f body h))
       (λ h. bcase (is (f .command) K.Refresh)
       (λ k. ap (λ (o : Outcome). o .endpoint .settings) (deliver-refresh e t f body h k) ∙ p)
       (λ k. bcase (e .settings .slave)

@@ -41,7 +41,8 @@ module _ (out : List ℕ) (e : Endpoint) (o : Outcome) where
   roomy h s = rw (le-ltb (length out) 248 h) s
 
   module _ (h : 248 ≤ length out) (a : Answer) (x : Endpoint) where
-    pub quiet : {r : Stepped} → o ≡ outcome a x nothing → r ≡ steppedOf a x 0 → StepSays (withRoom (length out) e o) out out r
+    pub quiet : {r : Stepped} → o ≡ outcome a x nothing → r ≡ steppedOf a x 0
+        → StepSays (withRoom (length out) e o) out out r
     quiet q s = roomy h (quiet-step out o a x q s)
 
     pub loud : (f : Fields) (body : List ℕ) {out′ : List ℕ} {n : ℕ} {r : Stepped} → o ≡ outcome a x (written f body)

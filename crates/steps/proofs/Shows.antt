@@ -20,7 +20,8 @@ use Rattle.steps.proofs.Whole.{show-width-length}
 
 pub show-width-le : (s : Settings) → showWidth s ≤ 100
 show-width-le s =
-    leb-true (showWidth s) 100 (and-left (leb (showWidth s) 100) _ (and-right (leb 4 (showWidth s)) _ (show-width-length s)))
+    leb-true (showWidth s) 100
+    (and-left (leb (showWidth s) 100) _ (and-right (leb 4 (showWidth s)) _ (show-width-length s)))
 
 module _ (e : Endpoint) (out : List ℕ) where
   pub no-room : (r : Shown) → length out < 248 → r .count ≡ 0 → r .failsafe ≡ isFailSafe e → ShowSays e out out r

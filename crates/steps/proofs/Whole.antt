@@ -1,4 +1,5 @@
--- A frame that can be written is written whole to an output of 248 bytes or more; and every frame that an endpoint writes can be.
+-- A frame that can be written is written whole to an output of 248 bytes or more; and every frame that an endpoint
+-- writes can be.
 use mathlib.Core.Path.{_≡_, refl, sym, ap, _∙_}
 use mathlib.Core.Bool.{Bool, true, false, _&&_, _||_, not, cond, or-true}
 use mathlib.Core.List.{List, [], _∷_}
@@ -23,7 +24,8 @@ use Rattle.endpoint.specs.Time.{span}
 use Rattle.steps.specs.Frames.{setupData, widthOf, sendWidth, showWidth, timeOf, plainFields, baselineOf, requestFields, refreshFields, disconnectFields, replyFields}
 use Rattle.steps.specs.Says.{WholeSays}
 
-pub whole : (f : Fields) (body out : List ℕ) {out′ : List ℕ} {count : ℕ} → 248 ≤ length out → isWritable f (length body) ≡ true
+pub whole : (f : Fields) (body out : List ℕ) {out′ : List ℕ} {count : ℕ} → 248 ≤ length out
+    → isWritable f (length body) ≡ true
     → WriteSays f body out out′ count → WholeSays f body out out′ count
 unfolding writtenOf
 whole f body out h w s =
@@ -50,12 +52,14 @@ value-length words = by-test (leb 1 words && leb words 25) refl
     by-test true h =
         let l = leb-true 1 words (and-left (leb 1 words) (leb words 25) h) in
         let m = leb-true words 25 (and-right (leb 1 words) (leb words 25) h) in
-        both (le-leb 4 (4 * words) (omega arith)) (both (le-leb (4 * words) 100 (omega arith)) (eq-eqb (4 * words % 4) 0 (omega arith)))
+        both (le-leb 4 (4 * words) (omega arith))
+        (both (le-leb (4 * words) 100 (omega arith)) (eq-eqb (4 * words % 4) 0 (omega arith)))
     by-test false h = refl
 
 -- ---- the form of each frame
 request-form : (s : State) (connection timestamp t measured : ℕ)
-    → hasForm (plainFields (requestOf s) false false false connection timestamp (baselineOf (requestOf s) t measured)) ≡ true
+    → hasForm (plainFields (requestOf s) false false false connection timestamp (baselineOf (requestOf s) t measured))
+    ≡ true
 unfolding hasForm
 request-form Close connection timestamp t measured = refl
 request-form Starting connection timestamp t measured = refl
@@ -67,13 +71,15 @@ request-form Refresh connection timestamp t measured = refl
 request-form Terminate connection timestamp t measured = refl
 
 -- a reply: to any command but S-Refresh and S-Disconnect
-reply-form : (k : Command) (error : Bool) (connection timestamp : ℕ) → is k K.Refresh ≡ false → is k K.Disconnect ≡ false
+reply-form : (k : Command) (error : Bool) (connection timestamp : ℕ) → is k K.Refresh ≡ false
+    → is k K.Disconnect ≡ false
     → hasForm (plainFields k true error true connection timestamp 0) ≡ true
 unfolding hasForm
 reply-form k error connection timestamp r d = rw (r, d, or-true (not error))
 
 -- a timestamp below 2^48 and a body's length complete the form
-writable : (f : Fields) (n : ℕ) → hasForm f ≡ true → f .timestamp < 2 ^ 48 → isBodyLength n ≡ true → isWritable f n ≡ true
+writable : (f : Fields) (n : ℕ) → hasForm f ≡ true → f .timestamp < 2 ^ 48 → isBodyLength n ≡ true
+    → isWritable f n ≡ true
 unfolding isWritable
 writable f n h t l = both h (both (lt-ltb (f .timestamp) (2 ^ 48) t) l)
 
@@ -95,10 +101,12 @@ module _ (e : Endpoint) (t : ℕ) where
       writable (disconnectFields e t) (length (setupData (e .settings) K.Disconnect)) refl (omega arith)
       (setup-length (e .settings) K.Disconnect)
 
-  pub reply-writable : (f : Fields) (error : Bool) (n : ℕ) → is (f .command) K.Refresh ≡ false → is (f .command) K.Disconnect ≡ false
+  pub reply-writable : (f : Fields) (error : Bool) (n : ℕ) → is (f .command) K.Refresh ≡ false
+      → is (f .command) K.Disconnect ≡ false
       → isBodyLength n ≡ true → isWritable (replyFields e f error) n ≡ true
   reply-writable f error n r d l =
-      writable (replyFields e f error) n (reply-form (f .command) error (e .settings .connection) (f .timestamp % span) r d) (omega arith) l
+      writable (replyFields e f error) n
+      (reply-form (f .command) error (e .settings .connection) (f .timestamp % span) r d) (omega arith) l
 
 pub send-width-length : (s : Settings) → isBodyLength (sendWidth s) ≡ true
 send-width-length s = value-length (cond (s .slave) (s .slavewords) (s .masterwords))

@@ -157,7 +157,8 @@ stoppedOf e t = record {
 }
 
 abbrev pub disconnectOf : Endpoint → ℕ → Written
-disconnectOf e t = cond (e .settings .slave) nothing (written (disconnectFields e t) (setupData (e .settings) K.Disconnect))
+disconnectOf e t = cond (e .settings .slave) nothing
+    (written (disconnectFields e t) (setupData (e .settings) K.Disconnect))
 
 abbrev pub stopOf : Endpoint → ℕ → Outcome
 stopOf e t =

@@ -24,7 +24,8 @@ use Rattle.steps.specs.Deliveries.{paddedOf, refreshedOf, advancedOf, en
 abbrev pub Carries : Endpoint → Written → Type 0
 Carries e nothing = Unit {0}
 Carries e (written f body) =
-    (isWritable f (length body) ≡ true) × (f .connection ≡ e .settings .connection) × (f .application ≡ e .settings .slave)
+    (isWritable f (length body) ≡ true) × (f .connection ≡ e .settings .connection)
+    × (f .application ≡ e .settings .slave)
 
 -- ---- what a call that is done tells of the endpoint, and what it comes to
 pub record StartDone (e : Endpoint) (t : ℕ) : Type 0 where
@@ -89,7 +90,8 @@ pub record StepLaws : Type 0 where
   pub restart-keeps : (e : Endpoint) → restartOf e .endpoint .settings ≡ e .settings
   pub send-keeps : (e : Endpoint) (t : ℕ) (value : List ℕ) → sendOf e t value .endpoint .settings ≡ e .settings
   pub stop-keeps : (e : Endpoint) (t : ℕ) → stopOf e t .endpoint .settings ≡ e .settings
-  pub deliver-keeps : (e : Endpoint) (t : ℕ) (f : Fields) (body : List ℕ) → deliverOf e t f body .endpoint .settings ≡ e .settings
+  pub deliver-keeps : (e : Endpoint) (t : ℕ) (f : Fields) (body : List ℕ)
+      → deliverOf e t f body .endpoint .settings ≡ e .settings
   -- what is written can be written and is the endpoint's; start and restart write nothing
   pub send-carries : (e : Endpoint) (t : ℕ) (value : List ℕ) → Carries e (sendOf e t value .writes)
   pub stop-carries : (e : Endpoint) (t : ℕ) → Carries e (stopOf e t .writes)
@@ -97,17 +99,22 @@ pub record StepLaws : Type 0 where
   -- a refusal that does not end the connection leaves all as it was
   pub send-dropped : (e : Endpoint) (t : ℕ) (value : List ℕ) (r : Reason) → sendOf e t value .answer ≡ Dropped r
       → sendOf e t value ≡ dropped e (Dropped r)
-  pub stop-dropped : (e : Endpoint) (t : ℕ) (r : Reason) → stopOf e t .answer ≡ Dropped r → stopOf e t ≡ dropped e (Dropped r)
-  pub deliver-dropped : (e : Endpoint) (t : ℕ) (f : Fields) (body : List ℕ) (r : Reason) → deliverOf e t f body .answer ≡ Dropped r
+  pub stop-dropped : (e : Endpoint) (t : ℕ) (r : Reason) → stopOf e t .answer ≡ Dropped r
+      → stopOf e t ≡ dropped e (Dropped r)
+  pub deliver-dropped : (e : Endpoint) (t : ℕ) (f : Fields) (body : List ℕ) (r : Reason)
+      → deliverOf e t f body .answer ≡ Dropped r
       → deliverOf e t f body ≡ dropped e (Dropped r)
   -- what done tells
   pub start-done : (e : Endpoint) (t : ℕ) → startOf e t .answer ≡ Done → StartDone e t
   pub restart-done : (e : Endpoint) → restartOf e .answer ≡ Done → RestartDone e
-  pub send-done : (e : Endpoint) (t : ℕ) (value : List ℕ) → sendOf e t value .answer ≡ Done → RefreshSent e t value ⊎ RequestSent e t value
+  pub send-done : (e : Endpoint) (t : ℕ) (value : List ℕ) → sendOf e t value .answer ≡ Done
+      → RefreshSent e t value ⊎ RequestSent e t value
   pub stop-done : (e : Endpoint) (t : ℕ) → stopOf e t .answer ≡ Done → StopDone e t
-  pub refresh-done : (e : Endpoint) (t stamp : ℕ) (body : List ℕ) → takeRefresh e t stamp body .answer ≡ Done → RefreshTaken e t stamp body
+  pub refresh-done : (e : Endpoint) (t stamp : ℕ) (body : List ℕ) → takeRefresh e t stamp body .answer ≡ Done
+      → RefreshTaken e t stamp body
   pub request-done : (e : Endpoint) (t : ℕ) (f : Fields) (body : List ℕ) → is (f .command) K.Disconnect ≡ false
       → takeRequest e t f body .answer ≡ Done → RequestTaken e t f body
   pub disconnect-done : (e : Endpoint) (t : ℕ) (f : Fields) (body : List ℕ) → is (f .command) K.Disconnect ≡ true
       → takeRequest e t f body .answer ≡ Done → DisconnectTaken e t f body
-  pub reply-done : (e : Endpoint) (t : ℕ) (f : Fields) (body : List ℕ) → takeReply e t f body .answer ≡ Done → ReplyTaken e t f body
+  pub reply-done : (e : Endpoint) (t : ℕ) (f : Fields) (body : List ℕ) → takeReply e t f body .answer ≡ Done
+      → ReplyTaken e t f body

@@ -1,4 +1,5 @@
--- `crc::crc_by_table` meets its contract. The invariant speaks of what is left of the slice, so that a turn takes one byte off it.
+-- `crc::crc_by_table` meets its contract. The invariant speaks of what is left of the slice, so that a turn takes one
+-- byte off it.
 use mathlib.Core.Path.{_≡_, sym, ap, ap₂, _∙_}
 use Prim.Native.Nat.{ℕ, _≤_, _<_, _-_}
 use native.Mathlib.Numerals.{add-one}
@@ -55,4 +56,5 @@ returns c =
 pub crc-by-table-spec : {M : Type 1} → statement M
 crc-by-table-spec =
     tie.close
-    (tie.spec Inv-loop μ-loop loop-holds shared-slice-read-byte-step byte-step-requires add-i loop-less loop-again returns)
+    (tie.spec Inv-loop μ-loop loop-holds shared-slice-read-byte-step byte-step-requires add-i loop-less loop-again
+    returns)

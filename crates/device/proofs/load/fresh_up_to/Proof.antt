@@ -31,7 +31,8 @@ loop-again c =
     let i = l .loop .i in (
       search needs,
       search needs,
-      ap₂ (λ (x : List Endpoint) (y : Endpoint). set x i y) (l .loop .inv .2) (c .fresh .ensures ∙ ap freshOf (c .before .settings-at .ensures))
+      ap₂ (λ (x : List Endpoint) (y : Endpoint). set x i y) (l .loop .inv .2)
+          (c .fresh .ensures ∙ ap freshOf (c .before .settings-at .ensures))
           ∙ ap (freshUpTo s) (sym (add-one i)),
     )
 

@@ -27,7 +27,8 @@ loop-again c =
     let h : l .loop .i < length (a .endpoints) = omega arith in (
       search needs,
       search needs,
-      stored (λ e. afterTick e (a .clock)) (a .endpoints) (l .loop .ticked) (l .loop .i) _ (c .tick .result) (l .loop .inv .2) h (c .tick .ensures),
+      stored (λ e. afterTick e (a .clock)) (a .endpoints) (l .loop .ticked) (l .loop .i) _ (c .tick .result)
+          (l .loop .inv .2) h (c .tick .ensures),
     )
 
 returns : tie.Need-returns Inv-loop μ-loop

@@ -10,7 +10,8 @@ first-of-spec =
     (λ c. rw (c .if1 .taken))
     (λ c. rw (c .before .if1 .left, c .if2 .taken))
     (λ c. let b = c .before in rw (b .before .if1 .left, b .if2 .left, c .if3 .taken))
-    (λ c. let b = c .before in let a = b .before in rw (a .before .if1 .left, a .if2 .left, b .if3 .left, c .if4 .taken))
+    (λ c. let b = c .before in let a = b .before in rw
+    (a .before .if1 .left, a .if2 .left, b .if3 .left, c .if4 .taken))
     (λ c.
     let b = c .before in
     let a = b .before .before in
@@ -22,5 +23,13 @@ first-of-spec =
     (λ c.
     let b = c .before .before .before in
     let a = b .before .before in
-    rw (a .before .if1 .left, a .if2 .left, b .before .if3 .left, b .if4 .left, c .before .before .if5 .left, c .before .if6 .left, c .if7 .taken))
+    rw (
+      a .before .if1 .left,
+      a .if2 .left,
+      b .before .if3 .left,
+      b .if4 .left,
+      c .before .before .if5 .left,
+      c .before .if6 .left,
+      c .if7 .taken,
+    ))
     (λ c. search needs))

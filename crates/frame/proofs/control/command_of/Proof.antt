@@ -1,4 +1,5 @@
--- `frame::control::command_of` meets its contract: where a test holds the definition computes, and at the end all have failed.
+-- `frame::control::command_of` meets its contract: where a test holds the definition computes, and at the end all
+-- have failed.
 use borrow.Author.Tests.{ne-eqb}
 use Rattle.frame.proofs.control.command_of.Statement.{statement}
 use Rattle.frame.proofs.control.command_of.Tie as tie
@@ -9,7 +10,15 @@ unlisted c =
     let c4 = c5 .before in
     let c3 = c4 .before in
     let c2 = c3 .before in
-    rw (ne-eqb _ _ (c2 .before .if1 .left), ne-eqb _ _ (c2 .if2 .left), ne-eqb _ _ (c3 .if3 .left), ne-eqb _ _ (c4 .if4 .left), ne-eqb _ _ (c5 .if5 .left), ne-eqb _ _ (c .if6 .left))
+    rw (
+      ne-eqb _ _ (c2 .before .if1 .left),
+      ne-eqb _ _ (c2 .if2 .left),
+      ne-eqb _ _ (c3 .if3 .left),
+      ne-eqb _ _
+          (c4 .if4 .left),
+      ne-eqb _ _ (c5 .if5 .left),
+      ne-eqb _ _ (c .if6 .left),
+    )
 
 pub command-of-spec : {M : Type 1} → statement M
 command-of-spec =

@@ -26,13 +26,15 @@ returns c =
 mul-length : tie.Need-mul-length
 mul-length c =
     let a = c .before .before .before .before .args in
-    let w = can-be-written (a .fields) (length (a .body .now)) (sym (c .before .is-writable .ensures) ∙ not-false _ (c .if1 .left)) in
+    let w = can-be-written (a .fields) (length (a .body .now))
+    (sym (c .before .is-writable .ensures) ∙ not-false _ (c .if1 .left)) in
     omega arith
 
 add-length : tie.Need-add-length
 add-length c =
     let a = c .before .before .before .before .args in
-    let w = can-be-written (a .fields) (length (a .body .now)) (sym (c .before .is-writable .ensures) ∙ not-false _ (c .if1 .left)) in
+    let w = can-be-written (a .fields) (length (a .body .now))
+    (sym (c .before .is-writable .ensures) ∙ not-false _ (c .if1 .left)) in
     omega arith
 
 returns-2 : tie.Need-returns-2
@@ -47,7 +49,8 @@ cast-cc : tie.Need-cast-cc
 cast-cc c =
     let t = c .before .before .before .before .before in
     let a = t .before .before .before .before .args in
-    let w = can-be-written (a .fields) (length (a .body .now)) (sym (t .before .is-writable .ensures) ∙ not-false _ (t .if1 .left)) in
+    let w = can-be-written (a .fields) (length (a .body .now))
+    (sym (t .before .is-writable .ensures) ∙ not-false _ (t .if1 .left)) in
     omega arith
 
 returns-3 : tie.Need-returns-3
@@ -61,7 +64,9 @@ returns-3 c =
     (both (sym (t .before .is-writable .ensures) ∙ not-false _ (t .if1 .left))
     (le-leb (48 + 2 * n) (length (a .out .now)) (k .before .if2 .left)))
     (c .before .before .put-copies .ensures
-    ∙ ap (λ (v : ℕ). put (a .out .now) 0 (twice (withCheckWord (headBytes v (a .fields .connection) (timeOf (a .fields)) (carryOf (a .fields)) (a .body .now)))))
+    ∙ ap (λ (v : ℕ). put (a .out .now) 0
+    (twice (withCheckWord
+    (headBytes v (a .fields .connection) (timeOf (a .fields)) (carryOf (a .fields)) (a .body .now)))))
     (k .control-of .ensures))
 
 pub write-frame-spec : {M : Type 1} → statement M

@@ -48,7 +48,8 @@ write-whole-requires c κs =
     let l : isBodyLength (length b) ≡ true = rw w (setup-length (a .e .settings) (a .f .command)) in (
       t .pre .0,
       rw (f .reply-fields .ensures)
-          (reply-writable (a .e) (a .clock) (a .f) (f .before .is-ended .result) (length b) (t .pre .1) (sym (i .before .is .ensures) ∙ n .1) l),
+          (reply-writable (a .e) (a .clock) (a .f) (f .before .is-ended .result) (length b) (t .pre .1)
+          (sym (i .before .is .ensures) ∙ n .1) l),
     )
 
 returns-2 : tie.Need-returns-2
@@ -74,7 +75,8 @@ returns-2 c =
       ← i .before .is .ensures,
       i .if1 .left,
     ) in
-    loud-step (a .out .now) o r x (f .reply-fields .result) (a .body .now) q (w .write-whole .ensures) (c .stepped2 .ensures)
+    loud-step (a .out .now) o r x (f .reply-fields .result) (a .body .now) q (w .write-whole .ensures)
+    (c .stepped2 .ensures)
 
 pub take-request-spec : {M : Type 1} → statement M
 take-request-spec =

@@ -20,27 +20,32 @@ returns-2 c =
 returns-3 : tie.Need-returns-3
 returns-3 c =
     let a = c .before .before .before .args in
-    one-word (a .s) (a .k) (a .s .station) (rw (c .before .enum-told3 .given .1)) (c .one-word2 .ensures .0) (c .one-word2 .ensures .1)
+    one-word (a .s) (a .k) (a .s .station) (rw (c .before .enum-told3 .given .1)) (c .one-word2 .ensures .0)
+    (c .one-word2 .ensures .1)
 
 returns-4 : tie.Need-returns-4
 returns-4 c =
     let a = c .before .before .before .args in
-    one-word (a .s) (a .k) 0 (rw (c .before .enum-told4 .given .1)) (c .one-word3 .ensures .0) (c .one-word3 .ensures .1)
+    one-word (a .s) (a .k) 0 (rw (c .before .enum-told4 .given .1)) (c .one-word3 .ensures .0)
+    (c .one-word3 .ensures .1)
 
 returns-5 : tie.Need-returns-5
 returns-5 c =
     let a = c .before .before .before .args in
-    one-word (a .s) (a .k) 0 (rw (c .before .enum-told5 .given .1)) (c .one-word4 .ensures .0) (c .one-word4 .ensures .1)
+    one-word (a .s) (a .k) 0 (rw (c .before .enum-told5 .given .1)) (c .one-word4 .ensures .0)
+    (c .one-word4 .ensures .1)
 
 returns-6 : tie.Need-returns-6
 returns-6 c =
     let a = c .before .before .before .args in
-    one-word (a .s) (a .k) 0 (rw (c .before .enum-told6 .given .1)) (c .one-word5 .ensures .0) (c .one-word5 .ensures .1)
+    one-word (a .s) (a .k) 0 (rw (c .before .enum-told6 .given .1)) (c .one-word5 .ensures .0)
+    (c .one-word5 .ensures .1)
 
 returns-7 : tie.Need-returns-7
 returns-7 c =
     let a = c .before .before .before .args in
-    one-word (a .s) (a .k) 0 (rw (c .before .enum-told7 .given .1)) (c .one-word6 .ensures .0) (c .one-word6 .ensures .1)
+    one-word (a .s) (a .k) 0 (rw (c .before .enum-told7 .given .1)) (c .one-word6 .ensures .0)
+    (c .one-word6 .ensures .1)
 
 pub setup-data-spec : {M : Type 1} → statement M
 setup-data-spec =

@@ -40,8 +40,11 @@ write-whole-requires c κs =
     let n = length (a .value .now) in
     let w : n ≡ sendWidth (a .e .settings) =
     sent-width (a .e) (a .clock) n (sym (i .is-state .ensures) ∙ f .before .if3 .taken)
-    (rw (← s .send-answer .ensures) (sym (d .is-dropped .ensures) ∙ i .before .before .if2 .left)) in
-    (s .before .if1 .left, rw (f .refresh-fields .ensures) (refresh-writable (a .e) (a .clock) n (rw w (send-width-length (a .e .settings)))))
+    (rw (← s .send-answer .ensures) (sym (d .is-dropped .ensures) ∙ i .before .before .if2 .left)) in (
+      s .before .if1 .left,
+      rw (f .refresh-fields .ensures)
+          (refresh-writable (a .e) (a .clock) n (rw w (send-width-length (a .e .settings)))),
+    )
 
 returns-3 : tie.Need-returns-3
 returns-3 c =
@@ -54,9 +57,16 @@ returns-3 c =
     let o = sendOf (a .e) (a .clock) (a .value .now) in
     let x = refreshSentOf (a .e) (a .clock) in
     let q : o ≡ outcome Done x (written (refreshFields (a .e) (a .clock)) (a .value .now)) =
-    rw (← s .send-answer .ensures, ← d .is-dropped .ensures, i .before .before .if2 .left, ← i .is-state .ensures, f .before .if3 .taken) in
+    rw (
+      ← s .send-answer .ensures,
+      ← d .is-dropped .ensures,
+      i .before .before .if2 .left,
+      ← i .is-state .ensures,
+      f .before .if3 .taken,
+    ) in
     loud (a .out .now) (a .e) o (s .before .if1 .left) Done x (refreshFields (a .e) (a .clock)) (a .value .now) q
-    (rw (f .refresh-fields .ensures) at (w .write-whole .ensures)) (rw (← c .before .refresh-sent .ensures) (c .stepped3 .ensures))
+    (rw (f .refresh-fields .ensures) at (w .write-whole .ensures))
+    (rw (← c .before .refresh-sent .ensures) (c .stepped3 .ensures))
 
 write-setup-requires : tie.Need-write-setup-requires
 write-setup-requires c κs =
@@ -80,7 +90,13 @@ returns-4 c =
     let x = requestedOf (a .e) (a .clock) in
     let b = setupData (a .e .settings) (requestOf (a .e .state)) in
     let q : o ≡ outcome Done x (written (requestFields (a .e) (a .clock)) b) =
-    rw (← s .send-answer .ensures, ← d .is-dropped .ensures, i .before .before .if2 .left, ← i .is-state .ensures, f .before .if3 .left) in
+    rw (
+      ← s .send-answer .ensures,
+      ← d .is-dropped .ensures,
+      i .before .before .if2 .left,
+      ← i .is-state .ensures,
+      f .before .if3 .left,
+    ) in
     loud (a .out .now) (a .e) o (s .before .if1 .left) Done x (requestFields (a .e) (a .clock)) b q
     (rw (f .request-fields .ensures, k .request-of .ensures) at (w .write-setup .ensures))
     (rw (← c .before .requested .ensures) (c .stepped4 .ensures))

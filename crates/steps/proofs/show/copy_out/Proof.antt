@@ -10,7 +10,8 @@ use Rattle.steps.proofs.show.copy_out.Statement.{statement}
 use Rattle.steps.proofs.show.copy_out.Tie as tie
 
 abbrev Inv-loop : tie.InvT-loop
-Inv-loop n out₀ bytes i₀ out i = (i ≤ n) × (length bytes ≡ 100) × (length out ≡ length out₀) × (out ≡ take i bytes ++ drop i out₀)
+Inv-loop n out₀ bytes i₀ out i = (i ≤ n) × (length bytes ≡ 100) × (length out ≡ length out₀)
+    × (out ≡ take i bytes ++ drop i out₀)
 
 abbrev μ-loop : tie.MeasureT-loop
 μ-loop n out₀ bytes i₀ out i = n - i

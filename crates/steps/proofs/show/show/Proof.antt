@@ -27,7 +27,8 @@ returns-2 c =
     let i = n .before .before .before in
     let f = i .before in
     let a = f .before .before .args in
-    shown (a .e) (a .out .now) _ (v .value-of .result) (i .if1 .left) (n .show-width .ensures) (f .is-fail-safe .ensures)
+    shown (a .e) (a .out .now) _ (v .value-of .result) (i .if1 .left) (n .show-width .ensures)
+    (f .is-fail-safe .ensures)
     (rw (f .is-fail-safe .ensures) at (v .value-of .ensures .0)) (v .value-of .ensures .1) (o .copy-out .ensures)
 
 pub show-spec : {M : Type 1} → statement M

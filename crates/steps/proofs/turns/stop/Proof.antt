@@ -52,11 +52,13 @@ returns-4 c =
     let s = d .before in
     let a = s .before .before .before .args in
     let q : stopOf (a .e) (a .clock)
-    ≡ outcome Done (stoppedOf (a .e) (a .clock)) (written (disconnectFields (a .e) (a .clock)) (setupData (a .e .settings) K.Disconnect)) =
+    ≡ outcome Done (stoppedOf (a .e) (a .clock))
+    (written (disconnectFields (a .e) (a .clock)) (setupData (a .e .settings) K.Disconnect)) =
     rw (← s .stop-answer .ensures, ← d .is-dropped .ensures, t .before .if2 .left, t .if3 .left) in
     loud (a .out .now) (a .e) (stopOf (a .e) (a .clock)) (s .before .if1 .left) Done (stoppedOf (a .e) (a .clock))
     (disconnectFields (a .e) (a .clock)) (setupData (a .e .settings) K.Disconnect) q
-    (rw (f .disconnect-fields .ensures) at (w .write-setup .ensures)) (rw (← c .before .stopped2 .ensures) (c .stepped4 .ensures))
+    (rw (f .disconnect-fields .ensures) at (w .write-setup .ensures))
+    (rw (← c .before .stopped2 .ensures) (c .stepped4 .ensures))
 
 pub stop-spec : {M : Type 1} → statement M
 stop-spec =
