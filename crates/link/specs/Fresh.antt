@@ -9,7 +9,7 @@ use Rattle.frame.specs.Control.{is}
 use Rattle.endpoint.specs.declared.Settings.{Settings}
 use Rattle.link.specs.Runs.{Clocks, Event, Entry, entryAt, Show, showAt, Link, afterAll, begun}
 
--- settings as a loaded list has them, one end master and the other slave of one CID
+-- settings as a loaded list has them, one end master and the other slave; that they name one CID is not needed
 pub record Ticks (s : Settings) : Type 0 where
   pub interval : s .interval ≤ 65535
   pub roundtrip : s .roundtrip ≤ 65535
