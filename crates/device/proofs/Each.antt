@@ -33,3 +33,9 @@ pub stored : {A : Type 0} (f : A → A) (xs ys : List A) (i : ℕ) (d r : A) →
     → r ≡ f (getD ys i d)
     → set ys i r ≡ upTo f (i + 1) xs
 stored f xs ys i d r p h q = rw (q, p, upTo-at, add-one) (upTo-suc f xs i d h)
+
+-- within a list the default is of no account
+pub any-default : {A : Type 0} (xs : List A) (i : ℕ) (d d′ : A) → i < length xs → getD xs i d ≡ getD xs i d′
+any-default [] i d d′ h = absurd (not-suc-le-zero h)
+any-default (x ∷ xs) zero d d′ h = refl
+any-default (x ∷ xs) (suc i) d d′ h = any-default xs i d d′ (le-of-suc-le-suc h)

@@ -1,2 +1,4 @@
 -- Laws that serve several functions.
 pub mod Each
+pub mod Finding
+pub mod OnEntry

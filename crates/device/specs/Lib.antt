@@ -2,3 +2,4 @@
 pub mod Tables
 pub mod Loading
 pub mod Clock
+pub mod Calls

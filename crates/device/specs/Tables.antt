@@ -1,8 +1,9 @@
--- A device's table of connections, and the clock step on all of them.
-use mathlib.Core.Bool.{Bool, true, false}
+-- A device's table of connections: its entries, and the clock step on all of them.
+use mathlib.Core.Bool.{Bool, true, false, _&&_, cond}
 use mathlib.Core.List.{List, [], _∷_, map}
 use Prim.Native.Nat.{ℕ, zero, suc}
-use lib.ListN.{replicate, set}
+use lib.Dec.{eqb, ltb}
+use lib.ListN.{getD, replicate, set, take}
 use Rattle.endpoint.specs.declared.Settings.{Settings}
 use Rattle.endpoint.specs.declared.Timestamp.the-variants.{Never}
 use Rattle.endpoint.specs.declared.Endpoint.{Endpoint}
@@ -10,11 +11,31 @@ use Rattle.endpoint.specs.Time.{afterTick}
 use Rattle.steps.specs.Calls.{freshOf}
 use Rattle.settings.specs.Lists.{settingsAt}
 use Rattle.device.specs.declared.Device.{Device}
+use Rattle.device.specs.declared.Entry.{Entry}
+use Rattle.device.specs.declared.Entry.the-variants.{Absent, At}
 
 -- a place of the table that holds no connection
 abbrev pub noSettings : Settings
 noSettings = record { connection = 0; slave = false; masterwords = 0; slavewords = 0; interval = 0; roundtrip = 0; age = 0; station = 0 }
 
+-- ---- entries
+-- the connections are the first `count` of 8 places
+abbrev pub isEntry : ℕ → ℕ → Bool
+isEntry count n = ltb n count && ltb n 8
+
+unfoldable pub endpointAt : List Endpoint → ℕ → Endpoint
+endpointAt es n = getD es n (freshOf noSettings)
+
+-- the first place from n on whose connection has the CID
+unfoldable pub findFrom : ℕ → ℕ → List Endpoint → Entry
+findFrom n cid [] = Absent
+findFrom n cid (e ∷ es) = cond (eqb (e .settings .connection) cid) (At n) (findFrom (suc n) cid es)
+
+-- the entry of a CID
+unfoldable pub entryOf : ℕ → ℕ → List Endpoint → Entry
+entryOf cid count es = findFrom 0 cid (take count es)
+
+-- ---- loading
 -- the first n places of a table hold the connections of a list, each in Close; the others none
 unfoldable pub freshUpTo : List ℕ → ℕ → List Endpoint
 freshUpTo ws zero = replicate 8 (freshOf noSettings)
@@ -24,6 +45,6 @@ freshUpTo ws (suc n) = set (freshUpTo ws n) n (freshOf (settingsAt ws n))
 unfoldable pub unloaded : Device
 unloaded = record { last = Never; count = 0; endpoints = replicate 8 (freshOf noSettings) }
 
--- the clock step of every connection
+-- ---- the clock step of every connection
 unfoldable pub tickedAll : ℕ → List Endpoint → List Endpoint
 tickedAll t es = map (λ e. afterTick e t) es

@@ -1,6 +1,6 @@
 // Clock readings: which are accepted, and what an accepted one does to a device.
 ghost use mathlib.Core.Path.{_≡_};
-ghost use Rattle.device.specs.Clock.{isReading, clockStep};
+ghost use Rattle.device.specs.Clock.{isReading, clockStep, afterClock};
 use super::Device;
 use super::table::tick_all;
 use endpoint::Timestamp;
@@ -24,5 +24,17 @@ pub fn clock_step(device: Device, clock: u64) -> Device
         last: Timestamp::At(clock),
         count: device.count,
         endpoints: tick_all(endpoints, clock),
+    }
+}
+
+// What a call's clock reading leaves: the device as it was where the reading is refused.
+pub fn after_clock(device: Device, clock: u64) -> Device
+    ensures { λ r. ⌜ r ≡ afterClock clock device ⌝ }
+{
+    let last = device.last;
+    if is_reading(last, clock) {
+        clock_step(device, clock)
+    } else {
+        device
     }
 }

@@ -1,9 +1,12 @@
 // A device: the table of its connections, and its last accepted clock reading. By value.
 
+pub mod calls;
 pub mod clock;
+pub mod deliver;
 pub mod load;
 pub mod table;
 
+use endpoint::Answer;
 use endpoint::Endpoint;
 use endpoint::Timestamp;
 
@@ -12,4 +15,20 @@ pub struct Device {
     pub last: Timestamp,
     pub count: u8,
     pub endpoints: [Endpoint; 8],
+}
+
+// The entry that an answer carries, if any: none is not entry 0.
+pub enum Entry {
+    Absent,
+    At(u32),
+}
+
+// What a call answers: with its entry, the bytes written to the lent output, the mark 'fail-safe' of a show, and the device it
+// leaves.
+pub struct Called {
+    pub answer: Answer,
+    pub entry: Entry,
+    pub count: usize,
+    pub failsafe: bool,
+    pub device: Device,
 }

@@ -1,15 +1,13 @@
 // Loading a settings list.
 ghost use mathlib.Core.Path.{_≡_};
 ghost use Prim.Native.Nat.{_≤_};
-ghost use lib.ListN.{replicate};
-ghost use Rattle.steps.specs.Calls.{freshOf};
-ghost use Rattle.device.specs.Tables.{noSettings, freshUpTo, unloaded};
+ghost use Rattle.device.specs.Tables.{freshUpTo, unloaded};
 ghost use Rattle.device.specs.Loading.{loadedOf};
 use super::Device;
+use super::table::no_connection;
 use endpoint::Answer;
 use endpoint::Endpoint;
 use endpoint::Reason;
-use endpoint::Settings;
 use endpoint::Timestamp;
 use steps::turns::fresh;
 
@@ -17,22 +15,6 @@ use steps::turns::fresh;
 pub struct Loaded {
     pub answer: Answer,
     pub device: Device,
-}
-
-// A place of the table that holds no connection.
-fn no_connection() -> Endpoint
-    ensures { λ r. ⌜ r ≡ freshOf noSettings ⌝ }
-{
-    fresh(Settings {
-        connection: 0,
-        slave: false,
-        masterwords: 0,
-        slavewords: 0,
-        interval: 0,
-        roundtrip: 0,
-        age: 0,
-        station: 0,
-    })
 }
 
 // A device never loaded: no connections.

@@ -44,6 +44,11 @@ firstOf f =
     (cond (f .unequal) (Ended R.Unequal)
     (cond (f .soon) (Dropped R.TooSoon) Done))))))
 
+abbrev pub isDone : Answer → Bool
+isDone Done = true
+isDone (Dropped r) = false
+isDone (Ended r) = false
+
 abbrev pub isDropped : Answer → Bool
 isDropped Done = false
 isDropped (Dropped r) = true

@@ -19,6 +19,10 @@ span = 281474976710656
 abbrev pub half : ℕ
 half = 140737488355328
 
+-- the highest clock reading: 2^48 − 65,537
+abbrev pub lastReading : ℕ
+lastReading = 281474976645119
+
 -- a − b modulo 2^48
 abbrev pub minus : ℕ → ℕ → ℕ
 minus a b = (a + (span - b % span)) % span

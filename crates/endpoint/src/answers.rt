@@ -1,6 +1,6 @@
 // Answers: their numbers, and the first refusal that applies.
 ghost use mathlib.Core.Path.{_≡_};
-ghost use Rattle.endpoint.specs.Answers.{reasonNumber, numberOf, firstOf, isDropped, isEnded};
+ghost use Rattle.endpoint.specs.Answers.{reasonNumber, numberOf, firstOf, isDone, isDropped, isEnded};
 use super::Answer;
 use super::Faults;
 use super::Reason;
@@ -67,6 +67,16 @@ pub fn first_of(f: Faults) -> Answer
         return Answer::Dropped(Reason::TooSoon);
     }
     Answer::Done
+}
+
+pub fn is_done(answer: Answer) -> bool
+    ensures { λ r. ⌜ r ≡ isDone answer ⌝ }
+{
+    match answer {
+        Answer::Done => true,
+        Answer::Dropped(_) => false,
+        Answer::Ended(_) => false,
+    }
 }
 
 pub fn is_dropped(answer: Answer) -> bool

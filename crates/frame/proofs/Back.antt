@@ -50,6 +50,17 @@ module _ (f : Fields) (start end : ℕ) where
       let e = r .1 in
       record { alike = same-eq a b (p .0); checked = q .0; formed = r .0; fields = cc; starts = cc; ends = cc }
 
+-- the body of a frame stands within its bytes
+pub within : (s : List ℕ) (f : Fields) (start end : ℕ) → readingOf s ≡ Frame f start end → (start ≤ end) × (end ≤ length s)
+unfolding readingOf
+within s f start end h =
+    let n : ℕ = length s / 2 in
+    let p = past f start end (isFrameLength (length s)) Length _ h in
+    let q = accepted f start end (take n s) (drop n s) (p .1) in
+    let g = frame-length (length s) (p .0) in
+    let l : length (take n s) ≡ n = length-take-le n s (omega arith) in
+    (omega (arith, q .starts, q .ends), omega (arith, q .ends))
+
 -- ---- bytes
 byte-at : {s : List ℕ} → Bytes s → (k : ℕ) → getD s k 0 < 256
 byte-at none k = lit< tt

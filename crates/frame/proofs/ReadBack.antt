@@ -16,7 +16,7 @@ use Rattle.frame.specs.RoundTrip.{Typed, Writable, RoundTrip}
 use Rattle.frame.proofs.Alike.{and-left}
 use Rattle.frame.proofs.Lengths.{length-frame}
 use Rattle.frame.proofs.There.{reads, body-lies}
-use Rattle.frame.proofs.Back.{back}
+use Rattle.frame.proofs.Back.{within, back}
 
 -- what was read of equal bytes is equal
 only : (f g : Fields) (b c : List ℕ) → Writable f b → Writable g c → frameBytes f b ≡ frameBytes g c → (f ≡ g) × (b ≡ c)
@@ -70,6 +70,7 @@ pub round-trip : RoundTrip
 round-trip = record {
   there = λ f body w. (reads f body w, body-lies f body w);
   back = λ s f start end r h. back s r f start end h;
+  within = within;
   only = only;
   written = λ f body out out′ count t w some. (
     read-back f body out out′ count t w some,

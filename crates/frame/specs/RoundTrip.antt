@@ -2,10 +2,10 @@
 use mathlib.Core.Path.{_≡_}
 use mathlib.Core.Bool.{Bool, true}
 use mathlib.Core.List.{List}
-use Prim.Native.Nat.{ℕ, _+_, _^_, _<_}
+use Prim.Native.Nat.{ℕ, _+_, _^_, _≤_, _<_}
 use lib.ListN.{length, take}
 use lib.Seq.{slice}
-use Rattle.crc.specs.Bytes.{Bytes}
+pub use Rattle.crc.specs.Bytes.{Bytes, none, more}
 use Rattle.frame.specs.declared.Session.{Session}
 use Rattle.frame.specs.declared.Session.the-variants.{Absent, Number}
 use Rattle.frame.specs.declared.Fields.{Fields}
@@ -36,6 +36,8 @@ pub record RoundTrip : Type 0 where
   -- an accepted list of bytes is what writing its fields gives
   pub back : (s : List ℕ) (f : Fields) (start end : ℕ) → Bytes s → readingOf s ≡ Frame f start end
       → Writable f (slice start end s) × (frameBytes f (slice start end s) ≡ s)
+  -- its body stands within the bytes
+  pub within : (s : List ℕ) (f : Fields) (start end : ℕ) → readingOf s ≡ Frame f start end → (start ≤ end) × (end ≤ length s)
   -- so no two writings are the same bytes
   pub only : (f g : Fields) (b c : List ℕ) → Writable f b → Writable g c → frameBytes f b ≡ frameBytes g c → (f ≡ g) × (b ≡ c)
   -- what write_frame wrote, read_frame reads back

@@ -19,7 +19,7 @@ use Rattle.endpoint.specs.declared.Reason.{Reason}
 use Rattle.endpoint.specs.declared.Reason.the-variants as R
 use Rattle.endpoint.specs.declared.Answer.{Answer}
 use Rattle.endpoint.specs.declared.Answer.the-variants.{Done, Dropped, Ended}
-use Rattle.endpoint.specs.Answers.{firstOf, isDropped}
+use Rattle.endpoint.specs.Answers.{firstOf, isDone, isDropped}
 use Rattle.endpoint.specs.Table.{isState}
 use Rattle.endpoint.specs.Time.{isExpired, endedOf}
 use Rattle.steps.specs.Frames.{Written, nothing, written}
@@ -27,7 +27,7 @@ use Rattle.steps.specs.Calls.{Outcome, outcome, dropped, startedOf, startOf, re
 use Rattle.steps.specs.Deliveries.{refreshFaults, refreshedOf, paddedOf, takeRefresh, deliverOf}
 use Rattle.steps.proofs.Dispatch.{cond-true, cond-false, deliver-echo, deliver-refresh}
 use Rattle.steps.proofs.Keeps.{bcase}
-use Rattle.link.specs.Runs.{Call, start, send, deliver, stop, restart, show, Entry, logged, lastOf, mayDeliver, isDone, tookBy, actOf, callOf}
+use Rattle.link.specs.Runs.{Call, start, send, deliver, stop, restart, show, Entry, logged, lastOf, mayDeliver, tookBy, actOf, callOf}
 use Rattle.link.proofs.Entries.{FoundAt, found-at}
 
 -- ---- send and stop are done or dropped

@@ -14,7 +14,8 @@ use Rattle.endpoint.specs.declared.Endpoint.{Endpoint}
 use Rattle.endpoint.specs.declared.Reason.the-variants as R
 use Rattle.endpoint.specs.declared.Answer.{Answer}
 use Rattle.endpoint.specs.declared.Answer.the-variants.{Done, Dropped, Ended}
-use Rattle.endpoint.specs.Time.{isExpired, endedOf}
+use Rattle.endpoint.specs.Answers.{isDone}
+use Rattle.endpoint.specs.Time.{lastReading, isExpired, endedOf}
 use Rattle.steps.specs.Frames.{Written, nothing, written, plainFields}
 use Rattle.steps.specs.Calls.{Outcome, outcome, freshOf, startOf, restartOf, sendOf, stopOf, isFailSafe, shownOf}
 use Rattle.steps.specs.Deliveries.{deliverOf}
@@ -28,9 +29,9 @@ pub record Clocks : Type 0 where
 abbrev pub momentOf : Clocks → Bool → ℕ → ℕ
 momentOf c slave t = t + cond slave (c .slave) (c .master)
 
--- the highest clock reading
+-- no clock is past it at a call
 abbrev pub clockLimit : ℕ
-clockLimit = 281474976645119
+clockLimit = lastReading
 
 -- ---- calls
 pub data Call : Type 0 where
@@ -162,11 +163,6 @@ mayDeliver l (deliver f body) = leb 1 (lastOf f body l)
 mayDeliver l stop = true
 mayDeliver l restart = true
 mayDeliver l show = true
-
-abbrev pub isDone : Answer → Bool
-isDone Done = true
-isDone (Dropped r) = false
-isDone (Ended r) = false
 
 -- one more than the place of what a call took, an S-Refresh that was done; else what was taken before
 abbrev pub tookBy : List Entry → Call → Answer → ℕ → ℕ

@@ -3,6 +3,7 @@ use Rattle.steps.specs.Laws.{StepLaws}
 use Rattle.steps.proofs.Carried as C
 use Rattle.steps.proofs.Dones as D
 use Rattle.steps.proofs.Keeps as P
+use Rattle.steps.proofs.Types as T
 
 pub step-laws : StepLaws
 step-laws = record {
@@ -14,6 +15,9 @@ step-laws = record {
   send-carries = C.send-carries;
   stop-carries = C.stop-carries;
   deliver-carries = C.deliver-carries;
+  send-typed = T.send-typed;
+  stop-typed = T.stop-typed;
+  deliver-typed = T.deliver-typed;
   send-dropped = D.send-dropped;
   stop-dropped = D.stop-dropped;
   deliver-dropped = D.deliver-dropped;

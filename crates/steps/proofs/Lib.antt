@@ -9,4 +9,5 @@ pub mod Whole
 pub mod Keeps
 pub mod Carried
 pub mod Dones
+pub mod Types
 pub mod CallLaws

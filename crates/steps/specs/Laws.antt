@@ -3,12 +3,14 @@ use mathlib.Core.Path.{_≡_}
 use mathlib.Core.Bool.{Bool, true, false}
 use mathlib.Core.List.{List}
 use mathlib.Core.Logic.{_⊎_}
-use Prim.Native.Nat.{ℕ}
+use Prim.Native.Nat.{ℕ, _+_, _*_, _^_, _<_}
 use lib.ListN.{length}
 use Rattle.frame.specs.declared.Command.the-variants as K
 use Rattle.frame.specs.declared.Fields.{Fields}
 use Rattle.frame.specs.Control.{is}
 use Rattle.frame.specs.Writing.{isWritable}
+use Rattle.frame.specs.RoundTrip.{Bytes, Typed}
+use Rattle.endpoint.specs.declared.Settings.{Settings}
 use Rattle.endpoint.specs.declared.State.the-variants.{Close, Refresh, Terminate}
 use Rattle.endpoint.specs.declared.Pending.the-variants.{Nothing, Asked}
 use Rattle.endpoint.specs.declared.Endpoint.{Endpoint}
@@ -26,6 +28,20 @@ Carries e nothing = Unit {0}
 Carries e (written f body) =
     (isWritable f (length body) ≡ true) × (f .connection ≡ e .settings .connection)
     × (f .application ≡ e .settings .slave)
+
+-- settings whose numbers fit into the words of setup requests
+pub record SettingsFit (s : Settings) : Type 0 where
+  pub connection : s .connection < 2 ^ 32
+  pub interval : s .interval < 2 ^ 32
+  pub roundtrip : s .roundtrip < 2 ^ 32
+  pub age : s .age < 2 ^ 32
+  pub words : 32 * s .masterwords + s .slavewords < 2 ^ 32
+  pub station : s .station < 2 ^ 32
+
+-- what is written has its numbers within their types
+abbrev pub IsTyped : Written → Type 0
+IsTyped nothing = Unit {0}
+IsTyped (written f body) = Typed f body
 
 -- ---- what a call that is done tells of the endpoint, and what it comes to
 pub record StartDone (e : Endpoint) (t : ℕ) : Type 0 where
@@ -96,6 +112,11 @@ pub record StepLaws : Type 0 where
   pub send-carries : (e : Endpoint) (t : ℕ) (value : List ℕ) → Carries e (sendOf e t value .writes)
   pub stop-carries : (e : Endpoint) (t : ℕ) → Carries e (stopOf e t .writes)
   pub deliver-carries : (e : Endpoint) (t : ℕ) (f : Fields) (body : List ℕ) → Carries e (deliverOf e t f body .writes)
+  pub send-typed : (e : Endpoint) (t : ℕ) (value : List ℕ) → SettingsFit (e .settings) → Bytes value
+      → IsTyped (sendOf e t value .writes)
+  pub stop-typed : (e : Endpoint) (t : ℕ) → SettingsFit (e .settings) → IsTyped (stopOf e t .writes)
+  pub deliver-typed : (e : Endpoint) (t : ℕ) (f : Fields) (body : List ℕ) → SettingsFit (e .settings) → Bytes body
+      → IsTyped (deliverOf e t f body .writes)
   -- a refusal that does not end the connection leaves all as it was
   pub send-dropped : (e : Endpoint) (t : ℕ) (value : List ℕ) (r : Reason) → sendOf e t value .answer ≡ Dropped r
       → sendOf e t value ≡ dropped e (Dropped r)

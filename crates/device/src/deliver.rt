@@ -1,0 +1,85 @@
+// Deliver: bytes as they came from the bus.
+ghost use mathlib.Core.Path.{_≡_};
+ghost use lib.ListN.{length};
+ghost use Rattle.device.specs.Calls.{reasonOf, byEntry, deliverIn, CallSays};
+use super::Called;
+use super::Device;
+use super::Entry;
+use super::calls::acted;
+use super::calls::admitted;
+use super::calls::before_entry;
+use super::calls::refused;
+use super::table::endpoint_at;
+use super::table::find;
+use endpoint::Answer;
+use endpoint::Reason;
+use endpoint::answers::is_done;
+use frame::Fault;
+use frame::Fields;
+use frame::Reading;
+use frame::read::read_frame;
+
+fn reason_of(fault: Fault) -> Reason
+    ensures { λ r. ⌜ r ≡ reasonOf fault ⌝ }
+{
+    match fault {
+        Fault::Length => Reason::Length,
+        Fault::Copies => Reason::Copies,
+        Fault::CheckWord => Reason::CheckWord,
+        Fault::Form => Reason::Form,
+    }
+}
+
+// A frame for the connection of entry n, or of no entry: number 8.
+fn deliver_to(
+    device: Device,
+    clock: u64,
+    found: Entry,
+    fields: Fields,
+    body: &[u8],
+    out: &mut [u8],
+) -> Called
+    ensures { λ r. ⌜ CallSays (byEntry device clock (length (now (out .entry))) fields (now (body .entry)) found) (now (out .entry)) (now (out .exit)) r ⌝ }
+{
+    let short = out.len() < 248;
+    match found {
+        Entry::Absent => {
+            let last = device.last;
+            let answer = admitted(last, clock, short, Answer::Dropped(Reason::Unknown));
+            refused(answer, clock, 0, device)
+        }
+        Entry::At(n) => {
+            let before = before_entry(device, clock, short, n);
+            if !is_done(before) {
+                return refused(before, clock, n, device);
+            }
+            let endpoints = device.endpoints;
+            let step = steps::deliver::deliver(endpoint_at(endpoints, n), clock, fields, body, out);
+            acted(step, clock, n, device)
+        }
+    }
+}
+
+// Bytes from the bus: numbers 4 to 7 where they are no frame. A slave's request writes its reply.
+pub fn deliver(device: Device, clock: u64, bytes: &[u8], out: &mut [u8]) -> Called
+    ensures { λ r. ⌜ CallSays (deliverIn device clock (length (now (out .entry))) (now (bytes .entry))) (now (out .entry)) (now (out .exit)) r ⌝ }
+{
+    let last = device.last;
+    let endpoints = device.endpoints;
+    let reading = read_frame(bytes);
+    match reading {
+        Reading::Refused(fault) => {
+            let answer = admitted(
+                last,
+                clock,
+                out.len() < 248,
+                Answer::Dropped(reason_of(fault)),
+            );
+            refused(answer, clock, 0, device)
+        }
+        Reading::Frame { fields, start, end } => {
+            let found = find(endpoints, device.count, fields.connection);
+            deliver_to(device, clock, found, fields, &bytes[start..end], out)
+        }
+    }
+}
