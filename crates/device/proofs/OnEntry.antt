@@ -7,7 +7,7 @@ use lib.Dec.{ltb}
 use lib.ListN.{length}
 use Rattle.frame.specs.Output.{over}
 use Rattle.endpoint.specs.declared.Timestamp.{Timestamp}
-use Rattle.endpoint.specs.declared.State.the-variants.{Close}
+use Rattle.endpoint.specs.declared.State.the-variants.{Close, Terminate}
 use Rattle.endpoint.specs.declared.Endpoint.{Endpoint}
 use Rattle.endpoint.specs.declared.Reason.the-variants as R
 use Rattle.endpoint.specs.declared.Answer.{Answer}
@@ -18,7 +18,7 @@ use Rattle.endpoint.specs.Time.{afterTick}
 use Rattle.steps.specs.declared.Stepped.{Stepped}
 use Rattle.steps.specs.declared.Shown.{Shown}
 use Rattle.steps.specs.Frames.{Written, nothing, bytesOf}
-use Rattle.steps.specs.Calls.{Outcome, outcome, dropped, startedOf, startOf, isFailSafe, shownOf}
+use Rattle.steps.specs.Calls.{Outcome, outcome, dropped, startedOf, startOf, restartedOf, restartOf, isFailSafe, shownOf}
 use Rattle.steps.specs.Says.{withRoom, plainStep, StepSays, shownTo, ShowSays}
 use Rattle.device.specs.declared.Device.{Device}
 use Rattle.device.specs.declared.Entry.the-variants.{At}
@@ -127,10 +127,16 @@ shown-says d t n out out′ b s called q h v r =
       output = v .output ∙ ap (λ (x : List ℕ). over x out) w ∙ ap (λ (x : Result). over (x .writes) out) (sym a);
     }
 
--- a start writes nothing
+-- a start writes nothing, nor does a restart
+either-quiet : (b : Bool) (x y : Outcome) → x .writes ≡ nothing → y .writes ≡ nothing → cond b x y .writes ≡ nothing
+either-quiet true x y h k = h
+either-quiet false x y h k = k
+
 pub start-quiet : (e : Endpoint) (t : ℕ) → startOf e t .writes ≡ nothing
-start-quiet e t = go (not (e .settings .slave) && isState (e .state) Close)
-  where
-    go : (b : Bool) → cond b (outcome Done (startedOf e t) nothing) (dropped e (Dropped R.Turn)) .writes ≡ nothing
-    go true = refl
-    go false = refl
+start-quiet e t =
+    either-quiet (not (e .settings .slave) && isState (e .state) Close) (outcome Done (startedOf e t) nothing)
+    (dropped e (Dropped R.Turn)) refl refl
+
+pub restart-quiet : (e : Endpoint) → restartOf e .writes ≡ nothing
+restart-quiet e =
+    either-quiet (isState (e .state) Terminate) (outcome Done (restartedOf e) nothing) (dropped e (Dropped R.Turn)) refl refl

@@ -1,7 +1,7 @@
-// The calls that name an entry: start, send, stop, show.
+// The calls that name an entry: start, send, stop, restart, show.
 ghost use mathlib.Core.Path.{_≡_};
 ghost use lib.ListN.{length};
-ghost use Rattle.device.specs.Calls.{admit, admitEntry, timely, refusedEntry, refusedOf, beforeEntry, startIn, sendIn, stopIn, showIn, calledOf, stepCalled, CallSays};
+ghost use Rattle.device.specs.Calls.{admit, admitEntry, timely, refusedEntry, refusedOf, beforeEntry, startIn, sendIn, stopIn, restartIn, showIn, calledOf, stepCalled, CallSays};
 use super::Called;
 use super::Device;
 use super::Entry;
@@ -145,6 +145,19 @@ pub fn stop(device: Device, clock: u64, n: u32, out: &mut [u8]) -> Called
     }
     let endpoints = device.endpoints;
     let step = steps::turns::stop(endpoint_at(endpoints, n), clock, out);
+    acted(step, clock, n, device)
+}
+
+// From Terminate to Close; timestamps are remembered.
+pub fn restart(device: Device, clock: u64, n: u32) -> Called
+    ensures { λ r. ⌜ r ≡ calledOf (restartIn device clock n) ⌝ }
+{
+    let before = before_entry(device, clock, false, n);
+    if !is_done(before) {
+        return refused(before, clock, n, device);
+    }
+    let endpoints = device.endpoints;
+    let step = steps::turns::restart(endpoint_at(endpoints, n));
     acted(step, clock, n, device)
 }
 

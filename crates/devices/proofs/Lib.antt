@@ -1,0 +1,8 @@
+-- Demand 3 for devices: their tables, the bytes between them, one call, every list of calls.
+pub mod Tables
+pub mod Loaded
+pub mod Logs
+pub mod Idle
+pub mod OneCall
+pub mod EachCall
+pub mod Lift

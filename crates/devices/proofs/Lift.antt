@@ -1,0 +1,295 @@
+-- Demand 3: every list of calls on two devices has a list of calls on the two endpoints of the CID that writes, takes and shows the same, so the
+-- theorem on endpoints gives the one on devices.
+use mathlib.Core.Path.{_≡_, refl, sym, ap, ap₂, subst, _∙_}
+use mathlib.Core.Bool.{Bool, true, false, _&&_, not, cond}
+use mathlib.Core.List.{List, [], _∷_, _++_}
+use Prim.Native.Nat.{ℕ, zero, suc, _+_, _-_, _≤_, _<_}
+use native.Mathlib.Nat.{not-suc-le-zero}
+use native.Mathlib.Omega.{arith}
+use lib.Dec.{leb}
+use borrow.Author.Tests.{eq-eqb}
+use lib.ListN.{length}
+use Rattle.frame.specs.declared.Command.the-variants as K
+use Rattle.frame.specs.Control.{is}
+use Rattle.frame.proofs.Alike.{and-left, and-right, both}
+use Rattle.endpoint.specs.declared.Settings.{Settings}
+use Rattle.endpoint.specs.declared.Timestamp.{Timestamp}
+use Rattle.endpoint.specs.declared.Timestamp.the-variants.{Never, At}
+use Rattle.endpoint.specs.declared.Endpoint.{Endpoint}
+use Rattle.endpoint.specs.Answers.{isDone}
+use Rattle.endpoint.specs.Time.{lastReading}
+use Rattle.steps.proofs.Keeps.{bcase}
+use Rattle.device.specs.declared.Device.{Device}
+use Rattle.device.specs.Tables.{endpointAt}
+use Rattle.device.specs.Clock.{isReading}
+use Rattle.device.specs.Calls.{Result}
+use Rattle.device.specs.Loading.{loadedOf}
+use Rattle.link.specs.Runs as L
+use Rattle.link.specs.Fresh as F
+use Rattle.link.proofs.AgeProof.{age-theorem}
+use Rattle.devices.specs.Runs.{Call, Event, callIn, isRefreshOf, Sent, sentAt, frameBy, logged, mayDeliver, handsBytes, tookBy, shownBy, Run, afterCall, afterEvent, afterAll, begun}
+use Rattle.devices.specs.Demand.{Holds, settingsIn, ItsSend, Fresh, runOf, Demand, SilentSince, Silence}
+use Rattle.devices.proofs.Tables.{Like, like-trans}
+use Rattle.devices.proofs.Loaded.{Table, loaded}
+use Rattle.devices.proofs.Logs.{refresh-of, toSent, toLog, toLog-append, toLog-length, sent-at, Good, AllGood, no-more, good-append, good-at}
+use Rattle.devices.proofs.OneCall.{Matches}
+use Rattle.devices.proofs.EachCall.{matches}
+
+reading-limit : (last : Timestamp) (t : ℕ) → isReading last t ≡ true → leb t lastReading ≡ true
+reading-limit Never t h = h
+reading-limit (At before) t h = and-right (leb before t) (leb t lastReading) h
+
+-- ---- one end of a run beside the endpoint of the CID
+record Side (d₀ : Device) (n : ℕ) (d : Device) (e : Endpoint) (took took′ : ℕ) : Type 0 where
+  like : Like d d₀
+  here : endpointAt (d .endpoints) n ≡ e
+  took-same : took ≡ took′
+
+-- a call at that end, and the one that does the same to the endpoint
+record Both (cid : ℕ) (slave : Bool) (m : ℕ) (d₀ : Device) (n : ℕ) (d : Device) (t room : ℕ) (call : Call) (sent : List Sent) (log : List L.Entry)
+    (e : Endpoint) (took took′ : ℕ) : Type 0 where
+  by : L.Call
+  side : Side d₀ n (callIn d t room call .device) (L.callOf e t by .endpoint)
+      (tookBy cid sent call (isDone (callIn d t room call .answer)) took) (L.tookBy log by (L.callOf e t by .answer) took′)
+  logs : logged cid slave m call (frameBy call (callIn d t room call .writes)) ≡ toLog (L.logged slave m by (L.callOf e t by .writes))
+  good : AllGood cid (L.logged slave m by (L.callOf e t by .writes))
+  shows : shownBy cid slave d m took (length sent) call (callIn d t room call)
+      ≡ L.shownBy slave m took′ (length log) by (L.callOf e t by .endpoint)
+  may : L.mayDeliver log by ≡ true
+
+one-step : (cid : ℕ) (slave : Bool) (m : ℕ) (d₀ : Device) (n : ℕ) → Table d₀ cid n → (d : Device) (t room : ℕ) (call : Call) (sent : List Sent)
+    (log : List L.Entry) (e : Endpoint) (took took′ : ℕ)
+    → Side d₀ n d e took took′ → sent ≡ toLog log → AllGood cid log
+    → isReading (d .last) t ≡ true → handsBytes call ≡ true → mayDeliver cid sent call ≡ true
+    → Both cid slave m d₀ n d t room call sent log e took took′
+one-step cid slave m d₀ n T d t room call sent log e took took′ S q good reading bytes may =
+    subst (λ (x : ℕ). Both cid slave m d₀ n d t room call sent log e took x) (S .took-same)
+    (subst (λ (x : Endpoint). Both cid slave m d₀ n d t room call sent log x took took) (S .here)
+    (subst (λ (x : List Sent). Both cid slave m d₀ n d t room call x log (endpointAt (d .endpoints) n) took took) (sym q)
+    (let M = matches cid slave m d₀ n T d (S .like) t room reading log good took call bytes
+    (ap (λ (x : List Sent). mayDeliver cid x call) (sym q) ∙ may) in
+    record {
+      by = M .by;
+      side = record { like = like-trans (M .like) (S .like); here = M .endpoint; took-same = M .takes };
+      logs = M .logs;
+      good = M .good;
+      shows = ap (λ (i : ℕ). shownBy cid slave d m took i call (callIn d t room call)) (toLog-length log) ∙ M .shows;
+      may = M .may;
+    })))
+
+module _ (wm ws : List ℕ) (cid : ℕ) (hm : Holds wm cid false) (hs : Holds ws cid true) (c : L.Clocks) where
+  tm : Table (loadedOf wm .device) cid (hm .entry)
+  tm = loaded wm cid (hm .entry) (hm .done) (hm .there)
+
+  ts : Table (loadedOf ws .device) cid (hs .entry)
+  ts = loaded ws cid (hs .entry) (hs .done) (hs .there)
+
+  record Sim (l : Run) (x : L.Link) : Type 0 where
+    sideM : Side (loadedOf wm .device) (hm .entry) (l .master) (x .master) (l .masterTook) (x .masterTook)
+    sideS : Side (loadedOf ws .device) (hs .entry) (l .slave) (x .slave) (l .slaveTook) (x .slaveTook)
+    log : l .log ≡ toLog (x .log)
+    good : AllGood cid (x .log)
+    shows : l .shows ≡ x .shows
+    latest : l .latest ≡ x .latest
+    allowed : x .allowed ≡ true
+
+  -- what the list's premise says of one call
+  record Kept (l : Run) (v : Event) : Type 0 where
+    before : l .allowed ≡ true
+    bytes : handsBytes (v .call) ≡ true
+    may : mayDeliver cid (l .log) (v .call) ≡ true
+    later : leb (l .latest) (L.momentOf c (v .slave) (v .clock)) ≡ true
+
+  kept : (l : Run) (v : Event) (r : Result) → afterCall cid c l v r .allowed ≡ true → Kept l v
+  kept l v r h =
+      let a = and-right (l .allowed) _ h in
+      let b = and-right (handsBytes (v .call)) _ a in
+      record {
+        before = and-left (l .allowed) _ h;
+        bytes = and-left (handsBytes (v .call)) _ a;
+        may = and-left (mayDeliver cid (l .log) (v .call)) _ b;
+        later = and-right (mayDeliver cid (l .log) (v .call)) _ b;
+      }
+
+  eventBy : Event → L.Call → L.Event
+  eventBy v k = record { slave = v .slave; clock = v .clock; call = k }
+
+  still-allowed : (l : Run) (x : L.Link) (v : Event) (k : L.Call) → Sim l x → Kept l v → L.mayDeliver (x .log) k ≡ true
+      → leb (v .clock) lastReading ≡ true
+      → (x .allowed && (L.mayDeliver (x .log) k && (leb (x .latest) (L.momentOf c (v .slave) (v .clock)) && leb (v .clock) lastReading))) ≡ true
+  still-allowed l x v k S kv h lim =
+      both (S .allowed) (both h (both (ap (λ (i : ℕ). leb i (L.momentOf c (v .slave) (v .clock))) (sym (S .latest)) ∙ kv .later) lim))
+
+  record Next (l′ : Run) (x : L.Link) : Type 0 where
+    event : L.Event
+    sim : Sim l′ (L.afterEvent c x event)
+
+  next : (l : Run) (x : L.Link) (slave : Bool) (t room : ℕ) (call : Call) → Sim l x
+      → isReading (cond slave (l .slave) (l .master) .last) t ≡ true
+      → afterCall cid c l (record { slave = slave; clock = t; room = room; call = call }) (callIn (cond slave (l .slave) (l .master)) t room call) .allowed ≡ true
+      → Next (afterCall cid c l (record { slave = slave; clock = t; room = room; call = call }) (callIn (cond slave (l .slave) (l .master)) t room call)) x
+  next l x false t room call S reading h =
+      let v : Event = record { slave = false; clock = t; room = room; call = call } in
+      let m = L.momentOf c false t in
+      let kv = kept l v (callIn (l .master) t room call) h in
+      let B = one-step cid false m (loadedOf wm .device) (hm .entry) tm (l .master) t room call (l .log) (x .log) (x .master)
+      (l .masterTook) (x .masterTook) (S .sideM) (S .log) (S .good) reading (kv .bytes) (kv .may) in
+      record {
+        event = record { slave = false; clock = t; call = B .by };
+        sim = record {
+          sideM = B .side;
+          sideS = S .sideS;
+          log = ap₂ _++_ (S .log) (B .logs) ∙ sym (toLog-append (x .log) _);
+          good = good-append cid (S .good) (B .good);
+          shows = ap₂ _++_ (S .shows) (B .shows);
+          latest = refl;
+          allowed = still-allowed l x v (B .by) S kv (B .may) (reading-limit (l .master .last) t reading);
+        };
+      }
+  next l x true t room call S reading h =
+      let v : Event = record { slave = true; clock = t; room = room; call = call } in
+      let m = L.momentOf c true t in
+      let kv = kept l v (callIn (l .slave) t room call) h in
+      let B = one-step cid true m (loadedOf ws .device) (hs .entry) ts (l .slave) t room call (l .log) (x .log) (x .slave)
+      (l .slaveTook) (x .slaveTook) (S .sideS) (S .log) (S .good) reading (kv .bytes) (kv .may) in
+      record {
+        event = record { slave = true; clock = t; call = B .by };
+        sim = record {
+          sideM = S .sideM;
+          sideS = B .side;
+          log = ap₂ _++_ (S .log) (B .logs) ∙ sym (toLog-append (x .log) _);
+          good = good-append cid (S .good) (B .good);
+          shows = ap₂ _++_ (S .shows) (B .shows);
+          latest = refl;
+          allowed = still-allowed l x v (B .by) S kv (B .may) (reading-limit (l .slave .last) t reading);
+        };
+      }
+
+  sm : Settings
+  sm = settingsIn hm
+
+  ss : Settings
+  ss = settingsIn hs
+
+  -- ---- a list of calls on the two endpoints that goes along
+  record Lifted (l : Run) : Type 0 where
+    events : List L.Event
+    sim : Sim l (L.afterAll c (L.begun sm ss) events)
+
+  one-more : (x : L.Link) (vs : List L.Event) (v : L.Event) → L.afterAll c x (vs ++ (v ∷ [])) ≡ L.afterEvent c (L.afterAll c x vs) v
+  one-more x [] v = refl
+  one-more x (u ∷ vs) v = one-more (L.afterEvent c x u) vs v
+
+  -- calls given 1 change nothing
+  accepted : (l : Run) (v : Event) → isReading (cond (v .slave) (l .slave) (l .master) .last) (v .clock) ≡ true
+      → afterEvent cid c l v ≡ afterCall cid c l v (callIn (cond (v .slave) (l .slave) (l .master)) (v .clock) (v .room) (v .call))
+  accepted l v q =
+      ap (λ (b : Bool). cond b (afterCall cid c l v (callIn (cond (v .slave) (l .slave) (l .master)) (v .clock) (v .room) (v .call))) l) q
+
+  left-out : (l : Run) (v : Event) → isReading (cond (v .slave) (l .slave) (l .master) .last) (v .clock) ≡ false → afterEvent cid c l v ≡ l
+  left-out l v q =
+      ap (λ (b : Bool). cond b (afterCall cid c l v (callIn (cond (v .slave) (l .slave) (l .master)) (v .clock) (v .room) (v .call))) l) q
+
+  step : (l : Run) (v : Event) → Lifted l → afterEvent cid c l v .allowed ≡ true → Lifted (afterEvent cid c l v)
+  step l v L₀ h =
+      bcase (isReading (cond (v .slave) (l .slave) (l .master) .last) (v .clock))
+      (λ q.
+      let p = accepted l v q in
+      let N = next l (L.afterAll c (L.begun sm ss) (L₀ .events)) (v .slave) (v .clock) (v .room) (v .call) (L₀ .sim) q
+      (ap (λ (r : Run). r .allowed) (sym p) ∙ h) in
+      subst Lifted (sym p) (record {
+        events = L₀ .events ++ (N .event ∷ []);
+        sim = subst (Sim _) (sym (one-more (L.begun sm ss) (L₀ .events) (N .event))) (N .sim);
+      }))
+      (λ q. subst Lifted (sym (left-out l v q)) L₀)
+
+  allowed-before : (l : Run) (vs : List Event) → afterAll cid c l vs .allowed ≡ true → l .allowed ≡ true
+  unfolding afterAll
+  allowed-before l [] h = h
+  allowed-before l (v ∷ vs) h =
+      let a = allowed-before (afterEvent cid c l v) vs h in
+      bcase (isReading (cond (v .slave) (l .slave) (l .master) .last) (v .clock))
+      (λ q. kept l v (callIn (cond (v .slave) (l .slave) (l .master)) (v .clock) (v .room) (v .call)) (ap (λ (r : Run). r .allowed) (sym (accepted l v q)) ∙ a) .before)
+      (λ q. ap (λ (r : Run). r .allowed) (sym (left-out l v q)) ∙ a)
+
+  along : (l : Run) (vs : List Event) → Lifted l → afterAll cid c l vs .allowed ≡ true → Lifted (afterAll cid c l vs)
+  unfolding afterAll
+  along l [] L₀ h = L₀
+  along l (v ∷ vs) L₀ h = along (afterEvent cid c l v) vs (step l v L₀ (allowed-before (afterEvent cid c l v) vs h)) h
+
+  at-first : Lifted (begun (loadedOf wm .device) (loadedOf ws .device))
+  unfolding toLog sm ss
+  at-first = record {
+    events = [];
+    sim = record {
+      sideM = record { like = record { counts = refl; settings = refl }; here = tm .fresh; took-same = refl };
+      sideS = record { like = record { counts = refl; settings = refl }; here = ts .fresh; took-same = refl };
+      log = refl;
+      good = no-more;
+      shows = refl;
+      latest = refl;
+      allowed = refl;
+    };
+  }
+
+  paired : F.Paired sm ss
+  unfolding sm ss
+  paired = record { master = hm .role; slave = hs .role; ticksM = tm .ticks; ticksS = ts .ticks }
+
+  -- ---- what holds of the endpoints' list holds of the devices'
+  module _ (l : Run) (x : L.Link) (S : Sim l x) (A : F.Fresh sm ss x) where
+    longs : length (x .log) ≡ length (l .log)
+    longs = sym (toLog-length (x .log)) ∙ ap length (sym (S .log))
+
+    sends : (y : L.Show) (bound k : ℕ) → k < length (x .log) → F.ItsSend bound y (L.entryAt (x .log) k)
+        → ItsSend cid bound y (sentAt (l .log) k)
+    unfolding toSent
+    sends y bound k h w =
+        let g = good-at cid (S .good) k h in
+        let e = L.entryAt (x .log) k in
+        subst (ItsSend cid bound y) (sym (ap (λ (s : List Sent). sentAt s k) (S .log) ∙ sent-at (x .log) k h)) (record {
+          other = w .other;
+          refresh = refresh-of cid (e .fields) (e .body) (g .writable) ∙ both (eq-eqb (e .fields .connection) cid (g .has)) (w .refresh);
+          value = w .value;
+          before = w .before;
+          young = w .young;
+        })
+
+    fresh : Fresh cid sm ss l
+    fresh = record {
+      there = λ i. subst (λ (z : List L.Show). i < length z → (1 ≤ L.showAt z i .sent) × (L.showAt z i .sent ≤ L.showAt z i .written)
+          × (L.showAt z i .written ≤ length (l .log))) (sym (S .shows))
+          (λ h. let r = A .there i h in (r .0, r .1, subst (λ (n : ℕ). L.showAt (x .shows) i .written ≤ n) longs (r .2)));
+      its-send = λ i k. subst (λ (z : List L.Show). i < length z → L.showAt z i .sent ≡ suc k
+          → ItsSend cid (F.boundOf (cond (L.showAt z i .slave) ss sm)) (L.showAt z i) (sentAt (l .log) k)) (sym (S .shows))
+          (λ h e. let r = A .there i h in let n : k < length (x .log) = let a = r .1 in let b = r .2 in omega arith in
+          sends (L.showAt (x .shows) i) _ k n (A .its-send i k h e));
+      in-order = λ i j a. subst (λ (z : List L.Show). j < length z → L.showAt z i .slave ≡ L.showAt z j .slave
+          → L.showAt z i .sent ≤ L.showAt z j .sent) (sym (S .shows)) (λ h e. A .in-order i j a h e);
+    }
+
+  lifted : (vs : List Event) → runOf wm ws cid c vs .allowed ≡ true → Fresh cid sm ss (runOf wm ws cid c vs)
+  lifted vs h =
+      let L₁ = along (begun (loadedOf wm .device) (loadedOf ws .device)) vs at-first h in
+      fresh (runOf wm ws cid c vs) (L.afterAll c (L.begun sm ss) (L₁ .events)) (L₁ .sim)
+      (age-theorem sm ss c (L₁ .events) paired (L₁ .sim .allowed))
+
+pub demand : Demand
+unfolding sm ss
+demand wm ws cid hm hs c vs h = lifted wm ws cid hm hs c vs h
+
+pub silence : Silence
+silence wm ws cid hm hs c vs slave last h quiet i k e =
+    let l = runOf wm ws cid c vs in
+    let A = demand wm ws cid hm hs c vs h in
+    let y = L.showAt (l .shows) i in
+    let r = A .there i k in
+    let j : ℕ = y .sent - 1 in
+    let q : y .sent ≡ suc j = let a = r .0 in omega arith in
+    let w = A .its-send i j k q in
+    let n : j < length (l .log) = let a = r .1 in let b = r .2 in omega arith in
+    let z = quiet j n (w .other ∙ ap not e) (w .refresh) in
+    let b : F.boundOf (cond (y .slave) (settingsIn hs) (settingsIn hm)) ≡ F.boundOf (cond slave (settingsIn hs) (settingsIn hm)) =
+    ap (λ (b : Bool). F.boundOf (cond b (settingsIn hs) (settingsIn hm))) e in
+    let v = w .young in
+    omega arith

@@ -1,0 +1,3 @@
+-- Two devices and the bytes between them, in reading order.
+pub mod Runs
+pub mod Demand

@@ -1,0 +1,217 @@
+-- Two devices over a list of calls (document 01, "What demand 3 runs over"): for one CID that both hold, which frames of it were
+-- written and which values of it were shown.
+use mathlib.Core.Bool.{Bool, true, false, _&&_, _||_, not, cond}
+use mathlib.Core.List.{List, [], _∷_, _++_}
+use Prim.Native.Nat.{ℕ, zero, suc}
+use lib.Dec.{eqb, leb, ltb}
+use lib.ListN.{length, getD}
+use Rattle.frame.specs.declared.Command.the-variants as K
+use Rattle.frame.specs.declared.Fields.{Fields}
+use Rattle.frame.specs.declared.Reading.{Reading}
+use Rattle.frame.specs.declared.Reading.the-variants.{Frame, Refused}
+use Rattle.frame.specs.Control.{is}
+use Rattle.frame.specs.Reading.{same, readingOf}
+use Rattle.endpoint.specs.Answers.{isDone}
+use Rattle.device.specs.declared.Device.{Device}
+use Rattle.device.specs.declared.Entry.{Entry}
+use Rattle.device.specs.declared.Entry.the-variants.{Absent, At}
+use Rattle.device.specs.Tables.{entryOf}
+use Rattle.device.specs.Clock.{isReading}
+use Rattle.device.specs.Calls.{Result, startIn, sendIn, stopIn, restartIn, showIn, deliverIn}
+use Rattle.link.specs.Runs.{Clocks, momentOf, Show}
+
+-- ---- calls: any but load, for whatever entry
+pub data Call : Type 0 where
+  start : ℕ → Call
+  send : ℕ → List ℕ → Call
+  deliver : List ℕ → Call
+  stop : ℕ → Call
+  restart : ℕ → Call
+  show : ℕ → Call
+
+-- a call at the slave's device or the master's, with its clock reading and the length of the output lent to it
+pub record Event : Type 0 where
+  pub slave : Bool
+  pub clock : ℕ
+  pub room : ℕ
+  pub call : Call
+
+-- what the call comes to, as the contracts of `device` have it
+abbrev pub callIn : Device → ℕ → ℕ → Call → Result
+callIn d t room (start n) = startIn d t n
+callIn d t room (send n value) = sendIn d t room n value
+callIn d t room (deliver s) = deliverIn d t room s
+callIn d t room (stop n) = stopIn d t room n
+callIn d t room (restart n) = restartIn d t n
+callIn d t room (show n) = showIn d t room n
+
+-- ---- bytes as the reader takes them
+abbrev pub isOf : ℕ → Reading → Bool
+isOf cid (Frame f from to) = eqb (f .connection) cid
+isOf cid (Refused fault) = false
+
+abbrev pub isRefreshIn : ℕ → Reading → Bool
+isRefreshIn cid (Frame f from to) = eqb (f .connection) cid && is (f .command) K.Refresh
+isRefreshIn cid (Refused fault) = false
+
+-- a frame of the CID
+abbrev pub isFrameOf : ℕ → List ℕ → Bool
+isFrameOf cid s = isOf cid (readingOf s)
+
+-- an S-Refresh of the CID
+abbrev pub isRefreshOf : ℕ → List ℕ → Bool
+isRefreshOf cid s = isRefreshIn cid (readingOf s)
+
+unfoldable pub areBytes : List ℕ → Bool
+areBytes [] = true
+areBytes (b ∷ s) = ltb b 256 && areBytes s
+
+-- ---- the frames of the CID that were written, oldest first
+-- by whom, when, the bytes, and the value that was lent to the call
+pub record Sent : Type 0 where
+  pub slave : Bool
+  pub moment : ℕ
+  pub bytes : List ℕ
+  pub lent : List ℕ
+
+-- what stands past the end of the log is of no account
+abbrev pub noSent : Sent
+noSent = record { slave = false; moment = 0; bytes = []; lent = [] }
+
+unfoldable pub sentAt : List Sent → ℕ → Sent
+sentAt l i = getD l i noSent
+
+-- what a send, stop or deliver wrote; a show writes values and no frames
+abbrev pub frameBy : Call → List ℕ → List ℕ
+frameBy (start n) writes = []
+frameBy (send n value) writes = writes
+frameBy (deliver s) writes = writes
+frameBy (stop n) writes = writes
+frameBy (restart n) writes = []
+frameBy (show n) writes = []
+
+abbrev pub lentTo : Call → List ℕ
+lentTo (start n) = []
+lentTo (send n value) = value
+lentTo (deliver s) = []
+lentTo (stop n) = []
+lentTo (restart n) = []
+lentTo (show n) = []
+
+abbrev pub logged : ℕ → Bool → ℕ → Call → List ℕ → List Sent
+logged cid slave m call bytes =
+    cond (isFrameOf cid bytes) (record { slave = slave; moment = m; bytes = bytes; lent = lentTo call } ∷ []) []
+
+-- one more than the last place of these bytes, counted on from n; found where none is left
+unfoldable pub lastFrom : ℕ → List ℕ → List Sent → ℕ → ℕ
+lastFrom n s [] found = found
+lastFrom n s (w ∷ l) found = lastFrom (suc n) s l (cond (same s (w .bytes)) (suc n) found)
+
+-- 0 where they were not written
+unfoldable pub lastOf : List ℕ → List Sent → ℕ
+lastOf s l = lastFrom 0 s l 0
+
+-- ---- a run
+pub record Run : Type 0 where
+  pub master : Device
+  pub slave : Device
+  pub log : List Sent
+  -- the done shows of the CID's entry that were not fail-safe
+  pub shows : List Show
+  -- one more than the place of the S-Refresh of the CID last taken at each end; 0: none
+  pub masterTook : ℕ
+  pub slaveTook : ℕ
+  pub latest : ℕ
+  -- whether the list kept to what demand 3 runs over
+  pub allowed : Bool
+
+abbrev pub deviceAt : Run → Bool → Device
+deviceAt l slave = cond slave (l .slave) (l .master)
+
+abbrev pub tookAt : Run → Bool → ℕ
+tookAt l slave = cond slave (l .slaveTook) (l .masterTook)
+
+-- a deliver hands over a frame of the CID that was written, at either end; or bytes that the reader takes for no frame, or for one
+-- under another CID
+abbrev pub mayDeliver : ℕ → List Sent → Call → Bool
+mayDeliver cid l (start n) = true
+mayDeliver cid l (send n value) = true
+mayDeliver cid l (deliver s) = not (isFrameOf cid s) || leb 1 (lastOf s l)
+mayDeliver cid l (stop n) = true
+mayDeliver cid l (restart n) = true
+mayDeliver cid l (show n) = true
+
+-- a value and what came from the bus are bytes
+abbrev pub handsBytes : Call → Bool
+handsBytes (start n) = true
+handsBytes (send n value) = areBytes value
+handsBytes (deliver s) = areBytes s
+handsBytes (stop n) = true
+handsBytes (restart n) = true
+handsBytes (show n) = true
+
+-- one more than the place of what a call took, an S-Refresh of the CID that was done; else what was taken before
+abbrev pub tookBy : ℕ → List Sent → Call → Bool → ℕ → ℕ
+tookBy cid l (start n) done last = last
+tookBy cid l (send n value) done last = last
+tookBy cid l (deliver s) done last = cond (done && isRefreshOf cid s) (lastOf s l) last
+tookBy cid l (stop n) done last = last
+tookBy cid l (restart n) done last = last
+tookBy cid l (show n) done last = last
+
+abbrev pub isAt : Entry → ℕ → Bool
+isAt Absent n = false
+isAt (At m) n = eqb m n
+
+-- a done show of the CID's entry that is not fail-safe
+abbrev pub showsValue : ℕ → Device → Call → Result → Bool
+showsValue cid d (start n) r = false
+showsValue cid d (send n value) r = false
+showsValue cid d (deliver s) r = false
+showsValue cid d (stop n) r = false
+showsValue cid d (restart n) r = false
+showsValue cid d (show n) r =
+    isAt (entryOf cid (d .count) (d .endpoints)) n && (isDone (r .answer) && not (r .failsafe))
+
+abbrev pub shownBy : ℕ → Bool → Device → ℕ → ℕ → ℕ → Call → Result → List Show
+shownBy cid slave d m took n call r =
+    cond (showsValue cid d call r) (record { slave = slave; moment = m; bytes = r .writes; sent = took; written = n } ∷ []) []
+
+-- a call whose clock reading is accepted; moments never fall
+abbrev pub afterCall : ℕ → Clocks → Run → Event → Result → Run
+afterCall cid c l v r =
+    let m = momentOf c (v .slave) (v .clock) in
+    record {
+      master = cond (v .slave) (l .master) (r .device);
+      slave = cond (v .slave) (r .device) (l .slave);
+      log = l .log ++ logged cid (v .slave) m (v .call) (frameBy (v .call) (r .writes));
+      shows = l .shows
+          ++ shownBy cid (v .slave) (deviceAt l (v .slave)) m (tookAt l (v .slave)) (length (l .log)) (v .call) r;
+      masterTook = cond (v .slave) (l .masterTook) (tookBy cid (l .log) (v .call) (isDone (r .answer)) (l .masterTook));
+      slaveTook = cond (v .slave) (tookBy cid (l .log) (v .call) (isDone (r .answer)) (l .slaveTook)) (l .slaveTook);
+      latest = m;
+      allowed = l .allowed && (handsBytes (v .call) && (mayDeliver cid (l .log) (v .call) && leb (l .latest) m));
+    }
+
+-- calls given 1 are left out: they change nothing
+abbrev pub afterEvent : ℕ → Clocks → Run → Event → Run
+afterEvent cid c l v =
+    let d = deviceAt l (v .slave) in
+    cond (isReading (d .last) (v .clock)) (afterCall cid c l v (callIn d (v .clock) (v .room) (v .call))) l
+
+unfoldable pub afterAll : ℕ → Clocks → Run → List Event → Run
+afterAll cid c l [] = l
+afterAll cid c l (v ∷ vs) = afterAll cid c (afterEvent cid c l v) vs
+
+-- two devices just loaded
+abbrev pub begun : Device → Device → Run
+begun dm ds = record {
+  master = dm;
+  slave = ds;
+  log = [];
+  shows = [];
+  masterTook = 0;
+  slaveTook = 0;
+  latest = 0;
+  allowed = true;
+}
