@@ -6,3 +6,4 @@ pub mod Idle
 pub mod OneCall
 pub mod EachCall
 pub mod Lift
+pub mod Cases

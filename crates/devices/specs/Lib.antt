@@ -1,3 +1,4 @@
 -- Two devices and the bytes between them, in reading order.
 pub mod Runs
 pub mod Demand
+pub mod Cases

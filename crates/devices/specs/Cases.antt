@@ -1,0 +1,133 @@
+-- Document 01's cases that are proved ("Cases at each edge", the rows marked P): what the definitions give beside what the paper states.
+use mathlib.Core.Path.{_≡_}
+use mathlib.Core.Bool.{Bool, true, false, cond}
+use mathlib.Core.List.{List, [], _∷_, map}
+use Prim.Native.Nat.{ℕ, _/_, _%_}
+use lib.ListN.{replicate}
+use Rattle.frame.specs.declared.Command.{Command}
+use Rattle.frame.specs.declared.Command.the-variants as K
+use Rattle.frame.specs.declared.Fields.{Fields}
+use Rattle.frame.specs.Control.{controlOf}
+use Rattle.endpoint.specs.declared.Settings.{Settings}
+use Rattle.endpoint.specs.declared.State.{State}
+use Rattle.endpoint.specs.declared.State.the-variants.{RefreshPending, Refresh}
+use Rattle.endpoint.specs.declared.Timestamp.{Timestamp}
+use Rattle.endpoint.specs.declared.Timestamp.the-variants.{Never, At}
+use Rattle.endpoint.specs.declared.Pending.the-variants.{Nothing}
+use Rattle.endpoint.specs.declared.Endpoint.{Endpoint}
+use Rattle.endpoint.specs.Answers.{numberOf}
+use Rattle.endpoint.specs.Time.{noValue}
+use Rattle.steps.specs.Frames.{plainFields, refreshFields, replyFields}
+use Rattle.steps.specs.Calls.{freshOf}
+use Rattle.steps.specs.Deliveries.{deliverOf}
+use Rattle.settings.specs.Lists.{settingsAt}
+use Rattle.device.specs.declared.Device.{Device}
+use Rattle.device.specs.Tables.{noSettings}
+use Rattle.device.specs.Calls.{Result, showIn}
+
+-- master 1/2, slave 1/3, one word each way, I = 100, R = 50, A = 50: kinds 1 to 7
+abbrev listOf : ℕ → List ℕ
+listOf role =
+    0x10000102 ∷ 0x20000103 ∷ role ∷ 0x40000064 ∷ 0x50000032 ∷ 0x60000032 ∷ 0x70000007 ∷ []
+
+abbrev masterSettings : Settings
+masterSettings = settingsAt (listOf 0x30000021) 0
+
+abbrev slaveSettings : Settings
+slaveSettings = settingsAt (listOf 0x30000421) 0
+
+-- the master's settings with age 0, so that only what counts as age 0 is accepted
+abbrev ageless : Settings
+ageless = record {
+  connection = masterSettings .connection;
+  slave = masterSettings .slave;
+  masterwords = masterSettings .masterwords;
+  slavewords = masterSettings .slavewords;
+  interval = masterSettings .interval;
+  roundtrip = masterSettings .roundtrip;
+  age = 0;
+  station = masterSettings .station;
+}
+
+-- an endpoint in a state since some reading, with what it has measured and its ts_offset
+abbrev endpointIn : Settings → State → ℕ → ℕ → ℕ → Endpoint
+endpointIn s state since measured offset = record {
+  settings = s;
+  state = state;
+  since = since;
+  timestamps = record { sent = Never; accepted = Never };
+  setup = record { pending = Nothing; measured = measured; offset = offset };
+  value = noValue;
+}
+
+abbrev word : List ℕ
+word = 0 ∷ 0 ∷ 0 ∷ 1 ∷ []
+
+abbrev cid : ℕ
+cid = 0x01020103
+
+-- Readying: S-RefreshGO, sent at 1,040 with OBL 10, taken by the slave whose s2 is 6,010
+abbrev ready : Endpoint
+ready =
+    deliverOf (endpointIn slaveSettings RefreshPending 6010 6010 0) 6050 (plainFields K.RefreshGo false false false cid 1040 10)
+    (0 ∷ 0 ∷ 0 ∷ 0 ∷ []) .endpoint
+
+-- an S-Refresh with this timestamp at an endpoint: the number it gets, and the endpoint it leaves
+abbrev refreshAt : Endpoint → ℕ → ℕ → ℕ
+refreshAt e t stamp =
+    numberOf (deliverOf e t (plainFields K.Refresh false false (cond (e .settings .slave) false true) cid stamp 0) word .answer)
+
+abbrev afterRefresh : Endpoint → ℕ → ℕ → Endpoint
+afterRefresh e t stamp =
+    deliverOf e t (plainFields K.Refresh false false (cond (e .settings .slave) false true) cid stamp 0) word .endpoint
+
+-- the slave in Refresh, its time in the master's clock 4,980 ticks back, one S-Refresh accepted at 6,180
+abbrev first : Endpoint
+first = afterRefresh (endpointIn slaveSettings Refresh 6150 6010 281474976705676) 6180 1195
+
+-- the later one, stamp 1,200, accepted at 6,230, on a device of this connection alone
+abbrev shownFrom : Device
+shownFrom = record {
+  last = At 6230;
+  count = 1;
+  endpoints = afterRefresh first 6230 1200 ∷ replicate 7 (freshOf noSettings);
+}
+
+abbrev markOf : Result → ℕ
+markOf r = cond (r .failsafe) 1 0
+
+pub record Case : Type 0 where
+  pub given : ℕ
+  pub stated : ℕ
+
+abbrev case : ℕ → ℕ → Case
+case g s = record { given = g; stated = s }
+
+abbrev pub cases : List Case
+cases =
+    -- CID of master 1/2, slave 1/3
+    case (masterSettings .connection) 0x01020103
+    -- slave S-Refresh CTRL; S-Connect reply
+    ∷ case (controlOf (refreshFields (endpointIn slaveSettings Refresh 0 0 0) 0)) 0xFF040000
+    ∷ case (controlOf (replyFields (freshOf slaveSettings) (plainFields K.Connect false false false cid 10 0) false)) 0x00840000
+    -- sending time 65,530, ts_offset 10: T code 4, CC 1
+    ∷ case (refreshFields (endpointIn slaveSettings Refresh 0 0 10) 65530 .timestamp % 65536) 4
+    ∷ case (refreshFields (endpointIn slaveSettings Refresh 0 0 10) 65530 .timestamp / 65536) 1
+    -- ts_offset, and what the slave sending at 6,100 stamps
+    ∷ case (ready .setup .offset) 281474976705676
+    ∷ case (refreshFields ready 6100 .timestamp) 1120
+    -- with R = 50 the master at 1,105 counts age 0; at 1,069 number 14, at 1,070 age 0
+    ∷ case (refreshAt (endpointIn ageless Refresh 1040 1030 0) 1105 1120) 0
+    ∷ case (refreshAt (endpointIn ageless Refresh 1040 1030 0) 1069 1120) 14
+    ∷ case (refreshAt (endpointIn ageless Refresh 1040 1030 0) 1070 1120) 0
+    -- stamp 1,200 at 6,230 accepted, at 6,231 number 15
+    ∷ case (refreshAt first 6230 1200) 0
+    ∷ case (refreshAt first 6231 1200) 15
+    -- accepted at 6,230: shown at 6,330, fail-safe in a show at 6,331
+    ∷ case (markOf (showIn shownFrom 6330 248 0)) 0
+    ∷ case (markOf (showIn shownFrom 6331 248 0)) 1
+    ∷ []
+
+-- each row gives what the paper states
+abbrev pub CasesHold : Type 0
+CasesHold = map (λ (c : Case). c .given) cases ≡ map (λ (c : Case). c .stated) cases
