@@ -7,3 +7,4 @@ pub mod OneCall
 pub mod EachCall
 pub mod Lift
 pub mod Cases
+pub mod Example

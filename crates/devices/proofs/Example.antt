@@ -1,0 +1,85 @@
+-- The theorem's premises can be met: two devices are loaded, the line starts, refreshes both ways, and shows both values. All of it is computed.
+use mathlib.Core.Path.{_≡_, refl}
+use mathlib.Core.Bool.{Bool, true, false}
+use mathlib.Core.List.{List, [], _∷_, _++_}
+use Prim.Native.Nat.{ℕ, _+_}
+use Rattle.crc.specs.Crc.{bitStep, bitSteps, byteStep, crcFrom, crc}
+use Rattle.frame.specs.declared.Command.{Command}
+use Rattle.frame.specs.declared.Command.the-variants as K
+use Rattle.frame.specs.Control.{controlOf, hasForm}
+use Rattle.frame.specs.Reading.{hasCheckWord, fieldsIn, readingOfCopies, readingOf}
+use Rattle.frame.specs.Writing.{headBytes, withCheckWord, twice, subBytes, frameBytes, isWritable}
+use Rattle.steps.specs.Frames.{bytesOf, plainFields, setupData}
+use Rattle.settings.specs.Lists.{connectionAt, settingsAt, isConnectionAt, isNewAt, areConnections, isList}
+use Rattle.device.specs.Tables.{endpointAt, findFrom, entryOf, freshUpTo, tickedAll}
+use Rattle.link.specs.Runs.{Clocks, Show}
+use Rattle.devices.specs.Runs.{Call, start, send, deliver, show, Event, areBytes, lastFrom, lastOf, Run, afterAll}
+use Rattle.devices.specs.Demand.{Holds, runOf}
+
+list : ℕ → List ℕ
+list role = 0x10000102 ∷ 0x20000103 ∷ role ∷ 0x40000064 ∷ 0x50000032 ∷ 0x60000032 ∷ 0x70000007 ∷ []
+
+at-master : ℕ → Call → Event
+at-master t call = record { slave = false; clock = t; room = 248; call = call }
+
+at-slave : ℕ → Call → Event
+at-slave t call = record { slave = true; clock = t; room = 248; call = call }
+
+-- the slave's clock is 5,000 ticks ahead of the master's
+clocks : Clocks
+clocks = record { master = 5000; slave = 0 }
+
+cid : ℕ
+cid = 0x01020103
+
+-- a request written at t, taken by the slave, and its reply taken by the master one tick later each
+exchange : ℕ → Command → ℕ → List ℕ → List Event
+exchange t k baseline body =
+    at-master t (send 0 [])
+    ∷ at-slave (5001 + t) (deliver (frameBytes (plainFields k false false false cid t baseline) body))
+    ∷ at-master (2 + t) (deliver (frameBytes (plainFields k true false true cid t 0) body)) ∷ []
+
+data-of : Command → List ℕ
+data-of k = setupData (settingsAt (list 0x30000021) 0) k
+
+line : List Event
+line =
+    (at-master 9 (start 0) ∷ [])
+    ++ (exchange 10 K.Connect 0 (data-of K.Connect)
+    ++ (exchange 20 K.ConfirmNetwork 0 (data-of K.ConfirmNetwork)
+    ++ (exchange 30 K.VerifyStation 0 (data-of K.VerifyStation)
+    ++ (exchange 40 K.RefreshReady 0 (data-of K.RefreshReady)
+    ++ (exchange 50 K.RefreshGo 8 (data-of K.RefreshGo)
+    ++ (at-master 60 (send 0 (1 ∷ 2 ∷ 3 ∷ 4 ∷ []))
+    ∷ at-slave 5061 (deliver (frameBytes (plainFields K.Refresh false false false cid 60 0) (1 ∷ 2 ∷ 3 ∷ 4 ∷ [])))
+    -- another entry, and bytes that are no frame
+    ∷ at-slave 5062 (show 1)
+    ∷ at-slave 5063 (deliver (1 ∷ 2 ∷ 3 ∷ []))
+    ∷ at-slave 5070 (show 0)
+    ∷ at-slave 5071 (send 0 (5 ∷ 6 ∷ 7 ∷ 8 ∷ []))
+    -- a reading before the last: number 1
+    ∷ at-slave 5000 (show 0)
+    ∷ at-master 72 (deliver (frameBytes (plainFields K.Refresh false false true cid 72 0) (5 ∷ 6 ∷ 7 ∷ 8 ∷ [])))
+    ∷ at-master 80 (show 0) ∷ []))))))
+
+run : Run
+run = runOf (list 0x30000021) (list 0x30000421) cid clocks line
+
+-- each device holds the CID at entry 0
+master : Holds (list 0x30000021) cid false
+unfolding list cid connectionAt settingsAt isConnectionAt isNewAt areConnections isList freshUpTo endpointAt findFrom entryOf
+master = record { done = refl; entry = 0; there = refl; role = refl }
+
+slave : Holds (list 0x30000421) cid true
+unfolding list cid connectionAt settingsAt isConnectionAt isNewAt areConnections isList freshUpTo endpointAt findFrom entryOf
+slave = record { done = refl; entry = 0; there = refl; role = refl }
+
+allowed : run .allowed ≡ true
+unfolding run line exchange data-of clocks at-master at-slave list cid afterAll areBytes lastFrom lastOf endpointAt findFrom entryOf freshUpTo tickedAll connectionAt settingsAt isConnectionAt isNewAt areConnections isList bytesOf setupData controlOf hasForm hasCheckWord fieldsIn readingOfCopies readingOf headBytes withCheckWord twice subBytes frameBytes isWritable bitStep bitSteps byteStep crcFrom crc
+allowed = refl
+
+shown : run .shows
+    ≡ (record { slave = true; moment = 5070; bytes = 1 ∷ 2 ∷ 3 ∷ 4 ∷ []; sent = 11; written = 11 }
+    ∷ record { slave = false; moment = 5080; bytes = 5 ∷ 6 ∷ 7 ∷ 8 ∷ []; sent = 12; written = 12 } ∷ [])
+unfolding run line exchange data-of clocks at-master at-slave list cid afterAll areBytes lastFrom lastOf endpointAt findFrom entryOf freshUpTo tickedAll connectionAt settingsAt isConnectionAt isNewAt areConnections isList bytesOf setupData controlOf hasForm hasCheckWord fieldsIn readingOfCopies readingOf headBytes withCheckWord twice subBytes frameBytes isWritable bitStep bitSteps byteStep crcFrom crc
+shown = refl
