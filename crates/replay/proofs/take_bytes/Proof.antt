@@ -1,0 +1,35 @@
+-- `replay::take_bytes` is safe and ends: a byte a turn.
+use Prim.Native.Nat.{_≤_, _-_}
+use borrow.Author.Needs.{needs}
+use lib.ListN.{length}
+use mathlib.Core.Path.{_≡_, refl, _∙_}
+use native.Mathlib.Omega.{arith}
+use Rattle.replay.proofs.take_bytes.Statement.{statement}
+use Rattle.replay.proofs.take_bytes.Tie as tie
+
+abbrev Inv-loop : tie.InvT-loop
+Inv-loop bytes line₀ after₀ i₀ line after i = (i ≤ length bytes) × (length line ≡ length line₀)
+
+abbrev μ-loop : tie.MeasureT-loop
+μ-loop bytes line₀ after₀ i₀ line after i = length bytes - i
+
+loop-again : tie.Need-loop-again Inv-loop μ-loop
+loop-again c = (search needs, search needs)
+
+returns : tie.Need-returns Inv-loop μ-loop
+returns c = tt
+
+pub take-bytes-spec : {M : Type 1} → statement M
+take-bytes-spec =
+    tie.close
+    (tie.spec
+    Inv-loop
+    μ-loop
+    (λ c. (search needs, refl))
+    (λ c. search needs)
+    (λ c κs. search needs)
+    (λ c. search needs)
+    (λ c. search needs)
+    loop-again
+    (λ c. search needs)
+    returns)

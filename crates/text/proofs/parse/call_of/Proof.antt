@@ -1,0 +1,137 @@
+-- `text::parse::call_of` meets its contract: each arm is the definition's at its name.
+use mathlib.Core.Path.{sym, ap, ap₂, _∙_}
+use Rattle.text.specs.declared.parse.Name.{Name}
+use Rattle.text.specs.Calls.{timedIn, sendIn, deliverIn, checkIn, roomOf, callOf}
+use Rattle.text.specs.Reading.{numberOf}
+use borrow.Author.Needs.{needs}
+use Rattle.text.proofs.parse.call_of.Statement.{statement}
+use Rattle.text.proofs.parse.call_of.Tie as tie
+
+returns : tie.Need-returns
+unfolding callOf
+returns c =
+    let m = c .before .before in
+    rw (m .enum-told .given .1, ← c .before .is-load .ensures, c .if1 .taken)
+
+returns-2 : tie.Need-returns-2
+unfolding callOf
+returns-2 c =
+    let m = c .before .before in
+    rw (m .enum-told .given .1, ← c .before .is-load .ensures, c .if1 .left)
+
+returns-3 : tie.Need-returns-3
+unfolding callOf
+returns-3 c =
+    let m = c .before in
+    let r = m .before .before in
+    let s = r .before .before .args .line .now in
+    let e = m .enum-told2 .given .1 in
+    c .timed-in .ensures ∙ ap₂ timedIn e (r .rest .ensures .0) ∙ ap (λ (n : Name). callOf n s) (sym e)
+
+returns-4 : tie.Need-returns-4
+unfolding callOf
+returns-4 c =
+    let m = c .before in
+    let r = m .before .before in
+    let s = r .before .before .args .line .now in
+    let e = m .enum-told3 .given .1 in
+    c .timed-in2 .ensures ∙ ap₂ timedIn e (r .rest .ensures .0) ∙ ap (λ (n : Name). callOf n s) (sym e)
+
+returns-5 : tie.Need-returns-5
+unfolding callOf
+returns-5 c =
+    let m = c .before in
+    let r = m .before .before in
+    let s = r .before .before .args .line .now in
+    let e = m .enum-told4 .given .1 in
+    c .timed-in3 .ensures ∙ ap₂ timedIn e (r .rest .ensures .0) ∙ ap (λ (n : Name). callOf n s) (sym e)
+
+returns-6 : tie.Need-returns-6
+unfolding callOf
+returns-6 c =
+    let m = c .before in
+    let r = m .before .before in
+    let s = r .before .before .args .line .now in
+    c .send-in .ensures
+    ∙ ap (sendIn s) (r .rest .ensures .0)
+    ∙ ap (λ (n : Name). callOf n s) (sym (m .enum-told5 .given .1))
+
+returns-7 : tie.Need-returns-7
+unfolding callOf
+returns-7 c =
+    let m = c .before in
+    let r = m .before .before in
+    let s = r .before .before .args .line .now in
+    let e = m .enum-told6 .given .1 in
+    c .timed-in4 .ensures ∙ ap₂ timedIn e (r .rest .ensures .0) ∙ ap (λ (n : Name). callOf n s) (sym e)
+
+returns-8 : tie.Need-returns-8
+unfolding callOf
+returns-8 c =
+    let m = c .before in
+    let r = m .before .before in
+    let s = r .before .before .args .line .now in
+    c .deliver-in .ensures
+    ∙ ap (deliverIn s) (r .rest .ensures .0)
+    ∙ ap (λ (n : Name). callOf n s) (sym (m .enum-told7 .given .1))
+
+returns-9 : tie.Need-returns-9
+unfolding callOf
+returns-9 c =
+    let m = c .before in
+    let r = m .before .before in
+    let s = r .before .before .args .line .now in
+    c .check-in .ensures
+    ∙ ap (checkIn s) (r .rest .ensures .0)
+    ∙ ap (λ (n : Name). callOf n s) (sym (m .enum-told8 .given .1))
+
+returns-10 : tie.Need-returns-10
+unfolding callOf
+returns-10 c =
+    let m = c .before .before in
+    let r = m .before .before in
+    let s = r .before .before .args .line .now in
+    c .room-of .ensures
+    ∙ ap roomOf (c .before .number-of .ensures ∙ ap numberOf (r .rest .ensures .0))
+    ∙ ap (λ (n : Name). callOf n s) (sym (m .enum-told9 .given .1))
+
+returns-11 : tie.Need-returns-11
+unfolding callOf
+returns-11 c = rw (c .enum-told10 .given .1)
+
+pub call-of-spec : {M : Type 1} → statement M
+call-of-spec =
+    tie.close
+    (tie.spec
+    (λ c κs. search needs)
+    (λ c. search needs)
+    (λ c κs. search needs)
+    returns
+    (λ c. search needs)
+    (λ c κs. search needs)
+    (λ c. search needs)
+    (λ c κs. search needs)
+    (λ c. search needs)
+    (λ c κs. search needs)
+    (λ c. search needs)
+    (λ c κs. search needs)
+    (λ c. search needs)
+    (λ c κs. search needs)
+    (λ c. search needs)
+    (λ c κs. search needs)
+    (λ c. search needs)
+    (λ c κs. search needs)
+    (λ c. search needs)
+    (λ c κs. search needs)
+    (λ c κs. search needs)
+    (λ c. search needs)
+    returns-2
+    returns-3
+    returns-4
+    returns-5
+    returns-6
+    returns-7
+    returns-8
+    returns-9
+    returns-10
+    returns-11)

@@ -1,0 +1,110 @@
+-- The call that a line is, by the word that it begins with.
+use mathlib.Core.Bool.{Bool, _||_, cond}
+use mathlib.Core.List.{List, [], _∷_}
+use Prim.Native.Nat.{ℕ, _-_}
+use lib.Dec.{eqb, leb, ltb}
+use lib.ListN.{length, getD}
+use Rattle.frame.specs.Reading.{same}
+use Rattle.text.specs.declared.Line.{Line}
+use Rattle.text.specs.declared.Line.the-variants as L
+use Rattle.text.specs.declared.parse.Name.{Name}
+use Rattle.text.specs.declared.parse.Name.the-variants.{Load, Start, Stop, Restart, Send, Show}
+use Rattle.text.specs.declared.parse.Name.the-variants.{Deliver, Check, Room, Unknown}
+use Rattle.text.specs.declared.parse.Pair.{Pair}
+use Rattle.text.specs.declared.parse.Pair.the-variants.{Both, Broken}
+use Rattle.text.specs.declared.number.Number.{Number}
+use Rattle.text.specs.declared.number.Number.the-variants.{Value, Invalid}
+use Rattle.text.specs.Reading.{wordIn, restOf, numberOf, isHex, isFrame, isLoad}
+
+-- the name that a word is, byte by byte
+unfoldable pub nameOf : List ℕ → Name
+nameOf w =
+    cond (same w (108 ∷ 111 ∷ 97 ∷ 100 ∷ [])) Load
+    (cond (same w (115 ∷ 116 ∷ 97 ∷ 114 ∷ 116 ∷ [])) Start
+    (cond (same w (115 ∷ 116 ∷ 111 ∷ 112 ∷ [])) Stop
+    (cond (same w (114 ∷ 101 ∷ 115 ∷ 116 ∷ 97 ∷ 114 ∷ 116 ∷ [])) Restart
+    (cond (same w (115 ∷ 101 ∷ 110 ∷ 100 ∷ [])) Send
+    (cond (same w (115 ∷ 104 ∷ 111 ∷ 119 ∷ [])) Show
+    (cond (same w (100 ∷ 101 ∷ 108 ∷ 105 ∷ 118 ∷ 101 ∷ 114 ∷ [])) Deliver
+    (cond (same w (99 ∷ 104 ∷ 101 ∷ 99 ∷ 107 ∷ [])) Check
+    (cond (same w (114 ∷ 111 ∷ 111 ∷ 109 ∷ [])) Room Unknown))))))))
+
+-- CLOCK below 2^64 and ENTRY below 2^32
+unfoldable pub pairOf : Number → Number → Pair
+pairOf (Value clock) (Value entry) = cond (ltb entry 4294967296) (Both clock entry) Broken
+pairOf (Value clock) Invalid = Broken
+pairOf Invalid entry = Broken
+
+-- the call of a name that CLOCK and ENTRY alone follow
+unfoldable pub callAt : Name → ℕ → ℕ → Line
+callAt Start clock entry = L.Start clock entry
+callAt Stop clock entry = L.Stop clock entry
+callAt Restart clock entry = L.Restart clock entry
+callAt Show clock entry = L.Show clock entry
+callAt Load clock entry = L.Wrong
+callAt Send clock entry = L.Wrong
+callAt Deliver clock entry = L.Wrong
+callAt Check clock entry = L.Wrong
+callAt Room clock entry = L.Wrong
+callAt Unknown clock entry = L.Wrong
+
+unfoldable pub timedOf : Name → Pair → Line
+timedOf name (Both clock entry) = callAt name clock entry
+timedOf name Broken = L.Wrong
+
+unfoldable pub sendOf : Pair → Bool → ℕ → Line
+sendOf (Both clock entry) is start = cond is (L.Send clock entry start) L.Wrong
+sendOf Broken is start = L.Wrong
+
+unfoldable pub deliverOf : Number → Bool → ℕ → Line
+deliverOf (Value clock) is start = cond is (L.Deliver clock start) L.Wrong
+deliverOf Invalid is start = L.Wrong
+
+-- 0 to 256
+unfoldable pub roomOf : Number → Line
+roomOf (Value n) = cond (leb n 256) (L.Room n) L.Wrong
+roomOf Invalid = L.Wrong
+
+-- ---- what follows a name: r is the line s after its first word. The last word of a call is all that is left, so that
+-- none may follow it.
+-- the place of that word in the line
+abbrev pub placeOf : List ℕ → List ℕ → ℕ
+placeOf s t = length s - length t
+
+-- CLOCK ENTRY
+unfoldable pub timedIn : Name → List ℕ → Line
+timedIn name r = timedOf name (pairOf (numberOf (wordIn r)) (numberOf (restOf r)))
+
+-- CLOCK ENTRY HEX
+unfoldable pub sendIn : List ℕ → List ℕ → Line
+sendIn s r =
+    sendOf (pairOf (numberOf (wordIn r)) (numberOf (wordIn (restOf r)))) (isHex (restOf (restOf r)))
+    (placeOf s (restOf (restOf r)))
+
+-- CLOCK HEX
+unfoldable pub deliverIn : List ℕ → List ℕ → Line
+deliverIn s r = deliverOf (numberOf (wordIn r)) (isFrame (restOf r)) (placeOf s (restOf r))
+
+-- HEX
+unfoldable pub checkIn : List ℕ → List ℕ → Line
+checkIn s r = cond (isFrame r) (L.Check (placeOf s r)) L.Wrong
+
+unfoldable pub callOf : Name → List ℕ → Line
+callOf Load s = cond (isLoad s) L.Load L.Wrong
+callOf Start s = timedIn Start (restOf s)
+callOf Stop s = timedIn Stop (restOf s)
+callOf Restart s = timedIn Restart (restOf s)
+callOf Send s = sendIn s (restOf s)
+callOf Show s = timedIn Show (restOf s)
+callOf Deliver s = deliverIn s (restOf s)
+callOf Check s = checkIn s (restOf s)
+callOf Room s = roomOf (numberOf (restOf s))
+callOf Unknown s = L.Wrong
+
+-- `#` begins a comment; so is an empty line
+abbrev pub isComment : List ℕ → Bool
+isComment s = eqb (length s) 0 || eqb (getD s 0 0) 35
+
+-- at most 4,096 bytes
+unfoldable pub lineOf : List ℕ → Line
+lineOf s = cond (ltb 4096 (length s)) L.Wrong (cond (isComment s) L.Nothing (callOf (nameOf (wordIn s)) s))

@@ -1,0 +1,55 @@
+// Call lists as text: a line read as a call, and the text of an answer. What is written stands at the front of lent memory.
+
+pub mod answer;
+pub mod hex;
+mod number;
+pub mod parse;
+mod put;
+mod word;
+
+// The entry that an answer names, if it names one.
+pub enum Entry {
+    Absent,
+    At(u32),
+}
+
+// What a line of a call list is. The bytes of a call stand as digits from `start` to the end of the line.
+pub enum Line {
+    // Settings words.
+    Load,
+    Start {
+        clock: u64,
+        entry: u32,
+    },
+    Stop {
+        clock: u64,
+        entry: u32,
+    },
+    Restart {
+        clock: u64,
+        entry: u32,
+    },
+    Send {
+        clock: u64,
+        entry: u32,
+        start: usize,
+    },
+    Show {
+        clock: u64,
+        entry: u32,
+    },
+    Deliver {
+        clock: u64,
+        start: usize,
+    },
+    // The frame check alone.
+    Check {
+        start: usize,
+    },
+    // The length of the output lent to the calls after it.
+    Room(usize),
+    // A comment, or nothing at all.
+    Nothing,
+    // Any other form.
+    Wrong,
+}

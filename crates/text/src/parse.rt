@@ -1,0 +1,241 @@
+// A line of a call list, without its newline: which call it is.
+ghost use mathlib.Core.Path.{_≡_};
+ghost use Prim.Native.Nat.{_≤_};
+ghost use lib.ListN.{length};
+ghost use Rattle.text.specs.Calls.{nameOf, pairOf, callAt, timedOf, sendOf, deliverOf, roomOf, timedIn, sendIn, deliverIn, checkIn, callOf, lineOf};
+use super::Line;
+use super::hex::at;
+use super::hex::is_frame;
+use super::hex::is_hex;
+use super::hex::is_load;
+use super::number::Number;
+use super::number::number_of;
+use super::word::first;
+use super::word::rest;
+use frame::read::same;
+
+// What the first word of a line names.
+pub(crate) enum Name {
+    Load,
+    Start,
+    Stop,
+    Restart,
+    Send,
+    Show,
+    Deliver,
+    Check,
+    Room,
+    Unknown,
+}
+
+// CLOCK and ENTRY.
+pub(crate) enum Pair {
+    Both { clock: u64, entry: u32 },
+    Broken,
+}
+
+// The name that a word is.
+fn name_of(word: &[u8]) -> Name
+    ensures { λ r. ⌜ r ≡ nameOf (now (word .entry)) ⌝ }
+{
+    if same(word, b"load") {
+        return Name::Load;
+    }
+    if same(word, b"start") {
+        return Name::Start;
+    }
+    if same(word, b"stop") {
+        return Name::Stop;
+    }
+    if same(word, b"restart") {
+        return Name::Restart;
+    }
+    if same(word, b"send") {
+        return Name::Send;
+    }
+    if same(word, b"show") {
+        return Name::Show;
+    }
+    if same(word, b"deliver") {
+        return Name::Deliver;
+    }
+    if same(word, b"check") {
+        return Name::Check;
+    }
+    if same(word, b"room") {
+        return Name::Room;
+    }
+    Name::Unknown
+}
+
+// The clock, and the entry where it is below 2^32.
+fn pair_of(clock: Number, entry: Number) -> Pair
+    ensures { λ r. ⌜ r ≡ pairOf clock entry ⌝ }
+{
+    match clock {
+        Number::Value(c) => match entry {
+            Number::Value(e) => {
+                if e < 4294967296 {
+                    return Pair::Both {
+                        clock: c,
+                        entry: e as u32,
+                    };
+                }
+                Pair::Broken
+            }
+            Number::Invalid => Pair::Broken,
+        },
+        Number::Invalid => Pair::Broken,
+    }
+}
+
+// The call of a name that CLOCK and ENTRY alone follow.
+fn call_at(name: Name, clock: u64, entry: u32) -> Line
+    ensures { λ r. ⌜ r ≡ callAt name clock entry ⌝ }
+{
+    match name {
+        Name::Start => Line::Start { clock, entry },
+        Name::Stop => Line::Stop { clock, entry },
+        Name::Restart => Line::Restart { clock, entry },
+        Name::Show => Line::Show { clock, entry },
+        Name::Load => Line::Wrong,
+        Name::Send => Line::Wrong,
+        Name::Deliver => Line::Wrong,
+        Name::Check => Line::Wrong,
+        Name::Room => Line::Wrong,
+        Name::Unknown => Line::Wrong,
+    }
+}
+
+fn timed_of(name: Name, pair: Pair) -> Line
+    ensures { λ r. ⌜ r ≡ timedOf name pair ⌝ }
+{
+    match pair {
+        Pair::Both { clock, entry } => call_at(name, clock, entry),
+        Pair::Broken => Line::Wrong,
+    }
+}
+
+fn send_of(pair: Pair, is: bool, start: usize) -> Line
+    ensures { λ r. ⌜ r ≡ sendOf pair is start ⌝ }
+{
+    match pair {
+        Pair::Both { clock, entry } => {
+            if is {
+                return Line::Send {
+                    clock,
+                    entry,
+                    start,
+                };
+            }
+            Line::Wrong
+        }
+        Pair::Broken => Line::Wrong,
+    }
+}
+
+fn deliver_of(clock: Number, is: bool, start: usize) -> Line
+    ensures { λ r. ⌜ r ≡ deliverOf clock is start ⌝ }
+{
+    match clock {
+        Number::Value(v) => {
+            if is {
+                return Line::Deliver { clock: v, start };
+            }
+            Line::Wrong
+        }
+        Number::Invalid => Line::Wrong,
+    }
+}
+
+fn room_of(number: Number) -> Line
+    ensures { λ r. ⌜ r ≡ roomOf number ⌝ }
+{
+    match number {
+        Number::Value(n) => {
+            if n <= 256 {
+                return Line::Room(n as usize);
+            }
+            Line::Wrong
+        }
+        Number::Invalid => Line::Wrong,
+    }
+}
+
+fn timed_in(name: Name, r: &[u8]) -> Line
+    ensures { λ x. ⌜ x ≡ timedIn name (now (r .entry)) ⌝ }
+{
+    timed_of(name, pair_of(number_of(first(r)), number_of(rest(r))))
+}
+
+fn send_in(line: &[u8], r: &[u8]) -> Line
+    requires { ⌜ length (now r) ≤ length (now line) ⌝ }
+    ensures { λ x. ⌜ x ≡ sendIn (now (line .entry)) (now (r .entry)) ⌝ }
+{
+    let second = rest(r);
+    let third = rest(second);
+    let pair = pair_of(number_of(first(r)), number_of(first(second)));
+    send_of(pair, is_hex(third), line.len() - third.len())
+}
+
+fn deliver_in(line: &[u8], r: &[u8]) -> Line
+    requires { ⌜ length (now r) ≤ length (now line) ⌝ }
+    ensures { λ x. ⌜ x ≡ deliverIn (now (line .entry)) (now (r .entry)) ⌝ }
+{
+    let second = rest(r);
+    deliver_of(
+        number_of(first(r)),
+        is_frame(second),
+        line.len() - second.len(),
+    )
+}
+
+fn check_in(line: &[u8], r: &[u8]) -> Line
+    requires { ⌜ length (now r) ≤ length (now line) ⌝ }
+    ensures { λ x. ⌜ x ≡ checkIn (now (line .entry)) (now (r .entry)) ⌝ }
+{
+    if is_frame(r) {
+        return Line::Check {
+            start: line.len() - r.len(),
+        };
+    }
+    Line::Wrong
+}
+
+// The call of a name, by the line that begins with it.
+fn call_of(name: Name, line: &[u8]) -> Line
+    ensures { λ r. ⌜ r ≡ callOf name (now (line .entry)) ⌝ }
+{
+    let r = rest(line);
+    match name {
+        Name::Load => {
+            if is_load(line) {
+                return Line::Load;
+            }
+            Line::Wrong
+        }
+        Name::Start => timed_in(name, r),
+        Name::Stop => timed_in(name, r),
+        Name::Restart => timed_in(name, r),
+        Name::Send => send_in(line, r),
+        Name::Show => timed_in(name, r),
+        Name::Deliver => deliver_in(line, r),
+        Name::Check => check_in(line, r),
+        Name::Room => room_of(number_of(r)),
+        Name::Unknown => Line::Wrong,
+    }
+}
+
+// What a line is, without its newline.
+pub fn parse(line: &[u8]) -> Line
+    ensures { λ r. ⌜ r ≡ lineOf (now (line .entry)) ⌝ }
+{
+    let n = line.len();
+    if 4096 < n {
+        return Line::Wrong;
+    }
+    if (n == 0) | (at(line, 0) == 35) {
+        return Line::Nothing;
+    }
+    call_of(name_of(first(line)), line)
+}
