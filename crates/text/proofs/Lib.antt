@@ -1,6 +1,9 @@
--- Laws that serve several functions.
+-- Laws that serve several functions, the range of a line, and what is printed is read back.
 pub mod Runs
 pub mod Every
 pub mod Words
 pub mod Numbers
 pub mod Tests
+pub mod Rooms
+pub mod NumbersBack
+pub mod BytesBack

@@ -123,7 +123,7 @@ follow {o} {k} {a} {o₁} {m} {b} {o₂} {n} p q h = record {
 }
 
 -- ---- a loop that stores one value more
-length-upto : (f : ℕ → ℕ) (n : ℕ) → length (upTo f n) ≡ n
+pub length-upto : (f : ℕ → ℕ) (n : ℕ) → length (upTo f n) ≡ n
 unfolding upTo
 length-upto f zero = refl
 length-upto f (suc n) = length-append (upTo f n) _ ∙ add-one _ ∙ ap suc (length-upto f n)

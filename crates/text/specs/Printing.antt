@@ -1,4 +1,4 @@
--- The text of an answer, and lent outputs that it is put into.
+-- The text of an answer, and lent memory that it is put into.
 use mathlib.Core.Path.{_≡_}
 use mathlib.Core.Bool.{Bool, true, _&&_, cond}
 use mathlib.Core.List.{List, [], _∷_, _++_}
@@ -68,7 +68,7 @@ checkText number = digitsOf number ++ (10 ∷ [])
 unfoldable pub wrongText : ℕ → List ℕ
 wrongText n = word (63 ∷ []) ++ digitsOf n ++ (10 ∷ [])
 
--- ---- lent outputs
+-- ---- lent memory
 -- every byte passes the test
 unfoldable pub every : (ℕ → Bool) → List ℕ → Bool
 every test [] = true
@@ -78,12 +78,12 @@ every test (b ∷ s) = test b && every test s
 abbrev pub isFill : ℕ → Bool
 isFill b = eqb b 238
 
--- the text at byte k of an output, and the place after it
+-- the text at place k, and the place after it
 pub record Puts (before : List ℕ) (k : ℕ) (text after : List ℕ) (next : ℕ) : Type 0 where
   pub bytes : after ≡ put before k text
   pub end : next ≡ k + length text
 
--- the text over the front of an output and its length; nothing where the output is shorter than `room`
+-- the text over the front of lent memory and its length; nothing where the memory is shorter than `room`
 pub record Written (room : ℕ) (text before after : List ℕ) (n : ℕ) : Type 0 where
   pub bytes : after ≡ over (cond (leb room (length before)) text []) before
   pub count : n ≡ length (cond (leb room (length before)) text [])

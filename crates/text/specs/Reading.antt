@@ -1,4 +1,4 @@
--- A line of a call list, without its newline: the words, the numbers, the bytes, and the call that it is.
+-- What a line of a call list is made of: words, numbers, bytes and settings words.
 use mathlib.Core.Bool.{Bool, true, _&&_, _||_, cond}
 use mathlib.Core.List.{List, [], _∷_, _++_}
 use Prim.Native.Nat.{ℕ, zero, suc, _+_, _-_, _*_, _/_, _%_}
@@ -67,10 +67,11 @@ unfoldable pub upTo : (ℕ → ℕ) → ℕ → List ℕ
 upTo f zero = []
 upTo f (suc n) = upTo f n ++ (f n ∷ [])
 
--- the bytes whose digits stand from `start` to the end of the line; none for `-`
+-- the byte i of those whose digits begin at `start`
 unfoldable pub byteIn : List ℕ → ℕ → ℕ → ℕ
 byteIn s start i = byteAt s (start + 2 * i)
 
+-- two digits a byte, to the end of the line; no byte for `-`
 abbrev pub byteCount : List ℕ → ℕ → ℕ
 byteCount s start = (length s - start) / 2
 
@@ -83,15 +84,18 @@ unfoldable pub wordAt : List ℕ → ℕ → ℕ
 wordAt s k =
     16777216 * byteAt s k + (65536 * byteAt s (k + 2) + (256 * byteAt s (k + 4) + byteAt s (k + 6)))
 
+-- the settings word i
 unfoldable pub settingAt : List ℕ → ℕ → ℕ
 settingAt s i = wordAt s (5 + 9 * i)
 
+-- nine bytes a word, to the end of the line
 abbrev pub settingCount : List ℕ → ℕ
 settingCount s = (length s - 4) / 9
 
 unfoldable pub settingsIn : List ℕ → List ℕ
 settingsIn s = upTo (settingAt s) (settingCount s)
 
+-- a space and eight digits stand where the settings word i is
 unfoldable pub isSettingAt : List ℕ → ℕ → Bool
 isSettingAt s i = eqb (getD s (4 + 9 * i) 0) 32 && every isHexDigit (take 8 (drop (5 + 9 * i) s))
 

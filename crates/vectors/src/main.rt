@@ -1,4 +1,7 @@
-// Runs RFC 3720's vectors (appendix B.4) and document 01's cases on frames; what it writes is held to the file stdout.
+// Runs RFC 3720's vectors (appendix B.4) and document 01's cases that are not proved; what it writes is held to the file stdout.
+
+mod readying;
+
 use frame::Command;
 use frame::Fields;
 use frame::Session;
@@ -212,4 +215,6 @@ fn main() {
     check_line(b"check of 248 bytes: ", &out, 248);
     check_line(b"check of 256 bytes: ", &out, 256);
     check_line(b"check of 0 bytes: ", &out, 0);
+    readying::readying(&mut out);
+    written_line(b"S-RefreshGO at 1,040, T code 1,040 and OBL 10: ", &out, 56);
 }

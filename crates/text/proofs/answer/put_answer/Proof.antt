@@ -1,5 +1,6 @@
 -- `text::answer::put_answer` meets its contract: two refusals that put nothing, and the answer.
 use native.Mathlib.Omega.{arith}
+use Rattle.text.specs.Printing.{answerText}
 use Rattle.text.proofs.Runs.{written-none, written}
 use borrow.Author.Needs.{needs}
 use Rattle.text.proofs.answer.put_answer.Statement.{statement}
@@ -14,7 +15,9 @@ returns-2 c = written-none _ _ (omega arith)
 returns-3 : tie.Need-returns-3
 returns-3 c =
     let l = c .before .before in
-    written _ (l .put-line .ensures .0) (omega arith) (l .put-line .ensures .1)
+    let a = l .before .before .before .before .before .before .args in
+    let t = answerText (a .number) (a .entry) (a .count) (a .mark) (a .dirty) (a .written .now) in
+    written {text = t} _ (l .put-line .ensures .0) (omega arith) (l .put-line .ensures .1)
 
 pub put-answer-spec : {M : Type 1} → statement M
 put-answer-spec = tie.close

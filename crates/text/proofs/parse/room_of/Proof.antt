@@ -7,11 +7,15 @@ use Rattle.text.proofs.parse.room_of.Tie as tie
 
 returns : tie.Need-returns
 unfolding roomOf
-returns c = rw (c .before .before .number .given .1, le-leb _ _ (c .if1 .taken))
+returns c =
+    let m = c .before .before in
+    rw (m .number .given .1, le-leb (m .number .given .0 .0) 256 (c .if1 .taken))
 
 returns-2 : tie.Need-returns-2
 unfolding roomOf
-returns-2 c = rw (c .before .before .number .given .1, lt-leb _ _ (c .if1 .left))
+returns-2 c =
+    let m = c .before .before in
+    rw (m .number .given .1, lt-leb (m .number .given .0 .0) 256 (c .if1 .left))
 
 returns-3 : tie.Need-returns-3
 unfolding roomOf
