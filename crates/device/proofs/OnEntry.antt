@@ -15,6 +15,7 @@ use Rattle.endpoint.specs.declared.Answer.the-variants.{Done, Dropped, Ended}
 use Rattle.endpoint.specs.Answers.{isDone}
 use Rattle.endpoint.specs.Table.{isState}
 use Rattle.endpoint.specs.Time.{afterTick}
+use Rattle.steps.proofs.Keeps.{bcase}
 use Rattle.steps.specs.declared.Stepped.{Stepped}
 use Rattle.steps.specs.declared.Shown.{Shown}
 use Rattle.steps.specs.Frames.{Written, nothing, bytesOf}
@@ -29,13 +30,10 @@ use Rattle.device.specs.Calls.{Result, admit, admitEntry, timely, refuse
 
 -- a call that goes on was lent enough room
 pub roomy : (last : Timestamp) (t : ℕ) (short : Bool) (a : Answer) → isDone (admit last t short a) ≡ true → short ≡ false
-roomy last t short a h = go (isReading last t) short h
-  where
-    go : (r s : Bool) → isDone (cond (not r) (Dropped R.Clock) (cond s (Dropped R.Buffer) a)) ≡ true → s ≡ false
-    go true true h = absurd (false≢true h)
-    go true false h = refl
-    go false true h = absurd (false≢true h)
-    go false false h = refl
+roomy last t short a h =
+    bcase short
+    (λ s. bcase (isReading last t) (λ r. absurd (false≢true (simp (r, s) at h))) (λ r. absurd (false≢true (simp (r, s) at h))))
+    (λ s. s)
 
 -- nothing is written
 pub silent : (r : Result) (out : List ℕ) (called : Called) → r .writes ≡ [] → called ≡ calledOf r → CallSays r out out called
@@ -90,7 +88,7 @@ acted-says act d t n out out′ b step called q h s r =
     let e = endpointAt (d .endpoints) n in
     let o = act e in
     let g : isDone (beforeEntry d t (isShort (length out)) n) ≡ true = ap isDone (sym q) ∙ h in
-    let short : ltb (length out) 248 ≡ false = roomy (d .last) t (isShort (length out)) (admitEntry (d .count) n (timely e t)) g in
+    let short : ltb (length out) 248 ≡ false = roomy (d .last) t (isShort (length out)) _ g in
     let w : withRoom (length out) e o ≡ o = ap (λ (x : Bool). cond x (withRoom 0 e o) o) short in
     let a = goes-on t n d (actedOf o t n d) (beforeEntry d t (isShort (length out)) n) b q h in
     record {
@@ -113,7 +111,7 @@ pub shown-says : (d : Device) (t n : ℕ) (out out′ : List ℕ) (b : Answer) (
 shown-says d t n out out′ b s called q h v r =
     let e = afterTick (endpointAt (d .endpoints) n) t in
     let g : isDone (beforeShow d t (isShort (length out)) n) ≡ true = ap isDone (sym q) ∙ h in
-    let short : ltb (length out) 248 ≡ false = roomy (d .last) t (isShort (length out)) (admitEntry (d .count) n Done) g in
+    let short : ltb (length out) 248 ≡ false = roomy (d .last) t (isShort (length out)) _ g in
     let w : shownTo (length out) e ≡ shownOf e = ap (λ (x : Bool). cond x [] (shownOf e)) short in
     let a = goes-on t n d (shownIn e t n d) (beforeShow d t (isShort (length out)) n) b q h in
     record {
