@@ -1,4 +1,4 @@
-// Refresh exchanges between two devices of 8 connections each: the program that tests/host/exchange times beside C.
+// Refresh exchanges between two devices of 8 connections each, timed beside the same in C by tests/host/run bench.
 // Arguments: the words of a value, 1 to 25, and the number of exchanges.
 use device::Device;
 use endpoint::Answer;
@@ -181,53 +181,7 @@ fn counted(answer: Answer, failsafe: bool) -> u64 {
     }
 }
 
-// One exchange: the master sends, the slave takes and shows; the slave sends, the master takes and shows.
-fn exchange(
-    line: Line,
-    n: u32,
-    words: u8,
-    value: &mut [u8; 100],
-    frame: &mut [u8; 248],
-    shown: &mut [u8; 248],
-) -> Line {
-    let clock = line.clock;
-    let master = line.master;
-    let slave = line.slave;
-    let sum = line.sum;
-    let width = 4 * ((words % 32) as usize);
-    mark(value, clock);
-    let sent = device::calls::send(master, clock, n, first(value, width), frame);
-    let master = sent.device;
-    let now = at_slave(later(clock, 1));
-    let taken = device::deliver::deliver(slave, now, first(frame, sent.count), shown);
-    let slave = taken.device;
-    let seen = device::calls::show(slave, now, n, shown);
-    let slave = seen.device;
-    let answer = seen.answer;
-    let once = counted(answer, seen.failsafe);
-    let sum = summed(sum, shown);
-    let now = at_slave(later(clock, 2));
-    mark(value, now);
-    let sent = device::calls::send(slave, now, n, first(value, width), frame);
-    let slave = sent.device;
-    let now = later(clock, 3);
-    let taken = device::deliver::deliver(master, now, first(frame, sent.count), shown);
-    let master = taken.device;
-    let seen = device::calls::show(master, now, n, shown);
-    let master = seen.device;
-    let answer = seen.answer;
-    let again = counted(answer, seen.failsafe);
-    let sum = summed(sum, shown);
-    Line {
-        master: master,
-        slave: slave,
-        clock: later(clock, 4),
-        shown: later(line.shown, later(once, again)),
-        sum: sum,
-    }
-}
-
-// So many exchanges, over the 8 connections by turns.
+// So many exchanges, over the 8 connections by turns: the master sends, the slave takes and shows, then the other way.
 fn exchanged(
     line: Line,
     exchanges: u64,
@@ -236,13 +190,55 @@ fn exchanged(
     frame: &mut [u8; 248],
     shown: &mut [u8; 248],
 ) -> Line {
-    let mut next = line;
-    let mut i: u64 = 0;
-    while i < exchanges {
-        next = exchange(next, (i % 8) as u32, words, value, frame, shown);
-        i += 1;
+    if exchanges == 0 {
+        return line;
     }
-    next
+    let mut master = line.master;
+    let mut slave = line.slave;
+    let mut clock = line.clock;
+    let mut count = line.shown;
+    let mut sum = line.sum;
+    let width = 4 * ((words % 32) as usize);
+    let mut n: u32 = 0;
+    let mut left = exchanges - 1;
+    loop {
+        mark(value, clock);
+        let sent = device::calls::send(master, clock, n, first(value, width), frame);
+        master = sent.device;
+        let now = at_slave(later(clock, 1));
+        let taken = device::deliver::deliver(slave, now, first(frame, sent.count), shown);
+        slave = taken.device;
+        let seen = device::calls::show(slave, now, n, shown);
+        slave = seen.device;
+        let answer = seen.answer;
+        count = later(count, counted(answer, seen.failsafe));
+        sum = summed(sum, shown);
+        let now = at_slave(later(clock, 2));
+        mark(value, now);
+        let sent = device::calls::send(slave, now, n, first(value, width), frame);
+        slave = sent.device;
+        let now = later(clock, 3);
+        let taken = device::deliver::deliver(master, now, first(frame, sent.count), shown);
+        master = taken.device;
+        let seen = device::calls::show(master, now, n, shown);
+        master = seen.device;
+        let answer = seen.answer;
+        count = later(count, counted(answer, seen.failsafe));
+        sum = summed(sum, shown);
+        clock = later(clock, 4);
+        n = std::num::wrapping_add_u32(n, 1) % 8;
+        if left == 0 {
+            break;
+        }
+        left -= 1;
+    }
+    Line {
+        master: master,
+        slave: slave,
+        clock: clock,
+        shown: count,
+        sum: sum,
+    }
 }
 
 // Bytes that differ.
