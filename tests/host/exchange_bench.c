@@ -109,7 +109,7 @@ static void bench(const char *product_program, const char *reference_program, co
             stop("the two programs printed different lines");
         }
     }
-    printf("exchange of %s words: product %.0f ns, C %.0f ns, ratio %.2f\n", words,
+    printf("exchange, words %s: product %.0f ns, C %.0f ns, ratio %.2f\n", words,
            ns_per_exchange(&product), ns_per_exchange(&reference),
            ns_per_exchange(&product) / ns_per_exchange(&reference));
 }
