@@ -15,7 +15,7 @@
 #include <sys/wait.h>
 #include <unistd.h>
 
-#define ROUNDS 8
+#define ROUNDS 10
 #define EXCHANGES "400000"
 #define LINE_MAX_LENGTH 200
 
