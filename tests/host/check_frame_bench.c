@@ -13,6 +13,7 @@
 
 #include "folderpink.h"
 #include "reference.h"
+#include "subpdu.h"
 
 /* Long enough to outlast a phase in which the core is shared with other work. */
 #define NS_PER_LENGTH 2e9
@@ -24,14 +25,6 @@
 typedef uint8_t check_function(const uint8_t *bytes, size_t length);
 
 static uint8_t frames[FRAMES][FOLDERPINK_FRAME_MAX];
-
-static void put_word(uint8_t *at, uint32_t word)
-{
-    at[0] = (uint8_t)(word >> 24);
-    at[1] = (uint8_t)(word >> 16);
-    at[2] = (uint8_t)(word >> 8);
-    at[3] = (uint8_t)word;
-}
 
 /* S-Refresh of the slave 1/3 to the master 1/2. */
 static void make_frame(uint8_t *frame, size_t length, uint32_t stamp)

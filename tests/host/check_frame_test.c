@@ -16,6 +16,7 @@
 
 #include "folderpink.h"
 #include "reference.h"
+#include "subpdu.h"
 
 _Static_assert(FOLDERPINK_SOUND == 0, "no number is given for a sound frame");
 _Static_assert(FOLDERPINK_LENGTH == 4, "number of: length");
@@ -36,10 +37,6 @@ _Static_assert(FOLDERPINK_FRAME_MAX == 248, "longest frame");
 #define NOT_FIXED (-1)
 
 #define FRAME_STEP 8
-#define WORD_SIZE 4
-#define AT_CTRL 0
-#define AT_TCODE_OBL 8
-#define AT_RSV 16
 
 #define GO_REQUEST 0xFE000000u
 
@@ -196,19 +193,6 @@ static void compare(const uint8_t *bytes, size_t length, int fixed)
 }
 
 /* ---- Frames ---- */
-
-static uint32_t get_word(const uint8_t *at)
-{
-    return (uint32_t)at[0] << 24 | (uint32_t)at[1] << 16 | (uint32_t)at[2] << 8 | at[3];
-}
-
-static void put_word(uint8_t *at, uint32_t word)
-{
-    at[0] = (uint8_t)(word >> 24);
-    at[1] = (uint8_t)(word >> 16);
-    at[2] = (uint8_t)(word >> 8);
-    at[3] = (uint8_t)word;
-}
 
 static void flip_bit(uint8_t *bytes, size_t bit)
 {

@@ -8,35 +8,9 @@
 #include <string.h>
 
 #include "folderpink.h"
+#include "subpdu.h"
 
 #define GENERATOR 0x1EDC6F41u
-
-/* Byte offsets in a SubPDU. */
-#define AT_CTRL 0
-#define AT_TCODE_OBL 8
-#define AT_RSV 16
-
-#define CHECK_WORD_SIZE 4
-
-/* CTRL, bits 31 to 24. */
-#define S_CONNECT 0x00u
-#define S_INIT_CONFIRM_NET_PRM 0x01u
-#define S_INIT_VERIFY_STN_PRM 0x02u
-#define S_DISCONNECT 0xF9u
-#define S_REFRESH_READY 0xFCu
-#define S_REFRESH_GO 0xFEu
-#define S_REFRESH 0xFFu
-
-/* CTRL, bits 23 to 0. */
-#define ACK 0x00800000u
-#define BUSY 0x00400000u
-#define ERROR 0x00200000u
-#define OFFSET_OP_SEQ 0x00100000u
-#define MO_BUSY 0x00080000u
-#define APPLICATION 0x00040000u
-#define RESERVED 0x00020000u
-#define SUB_CID_ACTIVE 0x00010000u
-#define SUB_CID 0x0000FFFFu
 
 #define ALWAYS_ZERO (BUSY | OFFSET_OP_SEQ | MO_BUSY | RESERVED | SUB_CID_ACTIVE | SUB_CID)
 
@@ -77,11 +51,6 @@ uint32_t reference_crc32c(const uint8_t *bytes, size_t length)
     return ~crc;
 }
 
-static uint32_t read_word(const uint8_t *bytes)
-{
-    return (uint32_t)bytes[0] << 24 | (uint32_t)bytes[1] << 16 | (uint32_t)bytes[2] << 8 | bytes[3];
-}
-
 static bool is_frame_length(size_t length)
 {
     return length >= 56 && length <= 248 && length % 8 == 0;
@@ -89,20 +58,20 @@ static bool is_frame_length(size_t length)
 
 static bool is_check_word_right(const uint8_t *subpdu, size_t length)
 {
-    const size_t covered = length - CHECK_WORD_SIZE;
+    const size_t covered = length - WORD_SIZE;
 
-    return reference_crc32c(subpdu, covered) == read_word(subpdu + covered);
+    return reference_crc32c(subpdu, covered) == get_word(subpdu + covered);
 }
 
 static bool is_form_right(const uint8_t *subpdu)
 {
-    const uint32_t ctrl = read_word(subpdu + AT_CTRL);
-    const uint32_t obl = read_word(subpdu + AT_TCODE_OBL) & 0xFFFFu;
+    const uint32_t ctrl = get_word(subpdu + AT_CTRL);
+    const uint32_t obl = get_word(subpdu + AT_TCODE_OBL) & 0xFFFFu;
     const bool ack = (ctrl & ACK) != 0;
     const bool error = (ctrl & ERROR) != 0;
     const bool application = (ctrl & APPLICATION) != 0;
 
-    if ((ctrl & ALWAYS_ZERO) != 0 || read_word(subpdu + AT_RSV) != 0) {
+    if ((ctrl & ALWAYS_ZERO) != 0 || get_word(subpdu + AT_RSV) != 0) {
         return false;
     }
     if (error && !ack) {
