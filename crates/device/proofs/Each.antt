@@ -1,10 +1,11 @@
 -- A loop that applies a function to each element of a list in place, one element a turn.
-use mathlib.Core.Path.{_≡_, refl, ap}
+use mathlib.Core.Path.{_≡_, refl, sym, ap, _∙_}
 use mathlib.Core.List.{List, [], _∷_, _++_, map}
 use Prim.Native.Nat.{ℕ, zero, suc, _+_, _≤_, _<_}
 use native.Mathlib.Nat.{not-suc-le-zero, le-of-suc-le-suc}
 use native.Mathlib.Numerals.{add-one}
 use lib.ListN.{length, getD, set, take, drop}
+use lib.Seq.{set-getD}
 
 -- f applied to the first i elements
 abbrev pub upTo : {A : Type 0} → (A → A) → ℕ → List A → List A
@@ -33,6 +34,12 @@ pub stored : {A : Type 0} (f : A → A) (xs ys : List A) (i : ℕ) (d r : A) →
     → r ≡ f (getD ys i d)
     → set ys i r ≡ upTo f (i + 1) xs
 stored f xs ys i d r p h q = rw (q, p, upTo-at, add-one) (upTo-suc f xs i d h)
+
+-- one turn that leaves an element which f leaves
+pub left : {A : Type 0} (f : A → A) (xs ys : List A) (i : ℕ) (d : A) → ys ≡ upTo f i xs → i < length xs
+    → f (getD ys i d) ≡ getD ys i d
+    → ys ≡ upTo f (i + 1) xs
+left f xs ys i d p h q = sym (set-getD ys i d) ∙ stored f xs ys i d (getD ys i d) p h (sym q)
 
 -- within a list the default is of no account
 pub any-default : {A : Type 0} (xs : List A) (i : ℕ) (d d′ : A) → i < length xs → getD xs i d ≡ getD xs i d′

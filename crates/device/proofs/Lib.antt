@@ -1,4 +1,5 @@
 -- Laws that serve several functions.
 pub mod Each
 pub mod Finding
+pub mod Ticked
 pub mod OnEntry

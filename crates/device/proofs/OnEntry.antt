@@ -25,7 +25,7 @@ use Rattle.device.specs.declared.Device.{Device}
 use Rattle.device.specs.declared.Entry.the-variants.{At}
 use Rattle.device.specs.declared.Called.{Called}
 use Rattle.device.specs.Tables.{endpointAt}
-use Rattle.device.specs.Clock.{isReading, afterClock}
+use Rattle.device.specs.Clock.{isReading, clockStep}
 use Rattle.device.specs.Calls.{Result, admit, admitEntry, timely, refusedOf, unlessRefused, actedOf, beforeEntry, onEntry, isShort, beforeShow, shownIn, showIn, calledOf, stepCalled, CallSays}
 
 -- a call that goes on was lent enough room
@@ -106,7 +106,7 @@ acted-says act d t n out out′ b step called q h s r =
 pub shown-says : (d : Device) (t n : ℕ) (out out′ : List ℕ) (b : Answer) (s : Shown) (called : Called)
     → b ≡ beforeShow d t (isShort (length out)) n → isDone b ≡ true
     → ShowSays (afterTick (endpointAt (d .endpoints) n) t) out out′ s
-    → called ≡ record { answer = Done; entry = At n; count = s .count; failsafe = s .failsafe; device = afterClock t d }
+    → called ≡ record { answer = Done; entry = At n; count = s .count; failsafe = s .failsafe; device = clockStep t d }
     → CallSays (showIn d t (length out) n) out out′ called
 shown-says d t n out out′ b s called q h v r =
     let e = afterTick (endpointAt (d .endpoints) n) t in
@@ -120,7 +120,7 @@ shown-says d t n out out′ b s called q h v r =
         entry = At n;
         count = (v .counted ∙ ap length w) i;
         failsafe = v .marked i;
-        device = afterClock t d;
+        device = clockStep t d;
       }) ∙ ap calledOf (sym a);
       output = v .output ∙ ap (λ (x : List ℕ). over x out) w ∙ ap (λ (x : Result). over (x .writes) out) (sym a);
     }

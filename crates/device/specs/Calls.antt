@@ -30,7 +30,7 @@ use Rattle.device.specs.declared.Entry.{Entry}
 use Rattle.device.specs.declared.Entry.the-variants.{Absent, At}
 use Rattle.device.specs.declared.Called.{Called}
 use Rattle.device.specs.Tables.{isEntry, endpointAt, entryOf}
-use Rattle.device.specs.Clock.{isReading, afterClock}
+use Rattle.device.specs.Clock.{isReading, clockStep, afterClock}
 
 pub record Result : Type 0 where
   pub answer : Answer
@@ -74,14 +74,14 @@ unlessRefused a t n d r = cond (isDone a) r (refusedOf a t n d)
 abbrev pub placed : ℕ → Endpoint → Device → Device
 placed n e d = record { last = d .last; count = d .count; endpoints = set (d .endpoints) n e }
 
--- the connection's own step, put back into the table
+-- the connection's own step, put back into the table that the clock step left
 abbrev pub actedOf : Outcome → ℕ → ℕ → Device → Result
 actedOf o t n d = record {
   answer = o .answer;
   entry = At n;
   writes = bytesOf (o .writes);
   failsafe = false;
-  device = placed n (o .endpoint) (afterClock t d);
+  device = placed n (o .endpoint) (clockStep t d);
 }
 
 -- numbers 1, 2, 3 and 9, the first that applies; `short`: an output was lent and is under 248 bytes
@@ -119,7 +119,7 @@ shownIn e t n d = record {
   entry = At n;
   writes = shownOf e;
   failsafe = isFailSafe e;
-  device = afterClock t d;
+  device = clockStep t d;
 }
 
 abbrev pub showIn : Device → ℕ → ℕ → ℕ → Result
@@ -162,7 +162,7 @@ stepCalled step t n d = record {
   entry = At n;
   count = step .count;
   failsafe = false;
-  device = placed n (step .endpoint) (afterClock t d);
+  device = placed n (step .endpoint) (clockStep t d);
 }
 
 -- a lent output: the written bytes stand over its front, the rest stays

@@ -1,7 +1,7 @@
 // The calls that name an entry: start, send, stop, restart, show.
 ghost use mathlib.Core.Path.{_≡_};
 ghost use lib.ListN.{length};
-ghost use Rattle.device.specs.Calls.{admit, admitEntry, timely, refusedEntry, refusedOf, beforeEntry, startIn, sendIn, stopIn, restartIn, showIn, calledOf, stepCalled, CallSays};
+ghost use Rattle.device.specs.Calls.{admit, admitEntry, timely, refusedEntry, refusedOf, startIn, sendIn, stopIn, restartIn, showIn, calledOf, stepCalled, CallSays};
 use super::Called;
 use super::Device;
 use super::Entry;
@@ -9,7 +9,7 @@ use super::clock::after_clock;
 use super::clock::is_reading;
 use super::table::endpoint_at;
 use super::table::is_entry;
-use super::table::place;
+use super::table::ticked_with;
 use endpoint::Answer;
 use endpoint::Endpoint;
 use endpoint::Reason;
@@ -54,14 +54,23 @@ fn is_timely(e: Endpoint, clock: u64) -> Answer
     }
 }
 
-// Numbers 1, 2, 3 and 9 of a call on a connection, the first that applies.
-pub(crate) fn before_entry(device: Device, clock: u64, short: bool, n: u32) -> Answer
-    ensures { λ r. ⌜ r ≡ beforeEntry device clock short n ⌝ }
+// Numbers 1, 2, 3 and 9 of a call on the connection e at n, the first that applies.
+pub(crate) fn before_entry(
+    last: Timestamp,
+    count: u8,
+    n: u32,
+    e: Endpoint,
+    clock: u64,
+    short: bool,
+) -> Answer
+    ensures { λ r. ⌜ r ≡ admit last clock short (admitEntry count n (timely e clock)) ⌝ }
 {
-    let last = device.last;
-    let endpoints = device.endpoints;
-    let timely = is_timely(endpoint_at(endpoints, n), clock);
-    admitted(last, clock, short, admitted_entry(device.count, n, timely))
+    admitted(
+        last,
+        clock,
+        short,
+        admitted_entry(count, n, is_timely(e, clock)),
+    )
 }
 
 fn entry_of(answer: Answer, n: u32) -> Entry
@@ -87,25 +96,23 @@ pub(crate) fn refused(answer: Answer, clock: u64, n: u32, device: Device) -> Cal
     }
 }
 
-// The connection's own step, put back into the table.
+// The connection's own step, put back into the table that the clock step left.
 pub(crate) fn acted(step: Stepped, clock: u64, n: u32, device: Device) -> Called
     ensures { λ r. ⌜ r ≡ stepCalled step clock n device ⌝ }
 {
     let answer = step.answer;
     let endpoint = step.endpoint;
-    let left = after_clock(device, clock);
-    let last = left.last;
-    let endpoints = left.endpoints;
+    let endpoints = device.endpoints;
     Called {
+        device: Device {
+            endpoints: ticked_with(endpoints, clock, n, endpoint),
+            last: Timestamp::At(clock),
+            count: device.count,
+        },
         answer: answer,
         entry: Entry::At(n),
         count: step.count,
         failsafe: false,
-        device: Device {
-            last: last,
-            count: left.count,
-            endpoints: place(endpoints, n, endpoint),
-        },
     }
 }
 
@@ -113,12 +120,14 @@ pub(crate) fn acted(step: Stepped, clock: u64, n: u32, device: Device) -> Called
 pub fn start(device: Device, clock: u64, n: u32) -> Called
     ensures { λ r. ⌜ r ≡ calledOf (startIn device clock n) ⌝ }
 {
-    let before = before_entry(device, clock, false, n);
+    let last = device.last;
+    let endpoints = device.endpoints;
+    let e = endpoint_at(endpoints, n);
+    let before = before_entry(last, device.count, n, e, clock, false);
     if !is_done(before) {
         return refused(before, clock, n, device);
     }
-    let endpoints = device.endpoints;
-    let step = steps::turns::start(endpoint_at(endpoints, n), clock);
+    let step = steps::turns::start(e, clock);
     acted(step, clock, n, device)
 }
 
@@ -126,12 +135,14 @@ pub fn start(device: Device, clock: u64, n: u32) -> Called
 pub fn send(device: Device, clock: u64, n: u32, value: &[u8], out: &mut [u8]) -> Called
     ensures { λ r. ⌜ CallSays (sendIn device clock (length (now (out .entry))) n (now (value .entry))) (now (out .entry)) (now (out .exit)) r ⌝ }
 {
-    let before = before_entry(device, clock, out.len() < 248, n);
+    let last = device.last;
+    let endpoints = device.endpoints;
+    let e = endpoint_at(endpoints, n);
+    let before = before_entry(last, device.count, n, e, clock, out.len() < 248);
     if !is_done(before) {
         return refused(before, clock, n, device);
     }
-    let endpoints = device.endpoints;
-    let step = steps::send::send(endpoint_at(endpoints, n), clock, value, out);
+    let step = steps::send::send(e, clock, value, out);
     acted(step, clock, n, device)
 }
 
@@ -139,12 +150,14 @@ pub fn send(device: Device, clock: u64, n: u32, value: &[u8], out: &mut [u8]) ->
 pub fn stop(device: Device, clock: u64, n: u32, out: &mut [u8]) -> Called
     ensures { λ r. ⌜ CallSays (stopIn device clock (length (now (out .entry))) n) (now (out .entry)) (now (out .exit)) r ⌝ }
 {
-    let before = before_entry(device, clock, out.len() < 248, n);
+    let last = device.last;
+    let endpoints = device.endpoints;
+    let e = endpoint_at(endpoints, n);
+    let before = before_entry(last, device.count, n, e, clock, out.len() < 248);
     if !is_done(before) {
         return refused(before, clock, n, device);
     }
-    let endpoints = device.endpoints;
-    let step = steps::turns::stop(endpoint_at(endpoints, n), clock, out);
+    let step = steps::turns::stop(e, clock, out);
     acted(step, clock, n, device)
 }
 
@@ -152,12 +165,14 @@ pub fn stop(device: Device, clock: u64, n: u32, out: &mut [u8]) -> Called
 pub fn restart(device: Device, clock: u64, n: u32) -> Called
     ensures { λ r. ⌜ r ≡ calledOf (restartIn device clock n) ⌝ }
 {
-    let before = before_entry(device, clock, false, n);
+    let last = device.last;
+    let endpoints = device.endpoints;
+    let e = endpoint_at(endpoints, n);
+    let before = before_entry(last, device.count, n, e, clock, false);
     if !is_done(before) {
         return refused(before, clock, n, device);
     }
-    let endpoints = device.endpoints;
-    let step = steps::turns::restart(endpoint_at(endpoints, n));
+    let step = steps::turns::restart(e);
     acted(step, clock, n, device)
 }
 
@@ -176,12 +191,17 @@ pub fn show(device: Device, clock: u64, n: u32, out: &mut [u8]) -> Called
         return refused(before, clock, n, device);
     }
     let endpoints = device.endpoints;
-    let shown = steps::show::show(tick(endpoint_at(endpoints, n), clock), out);
+    let e = tick(endpoint_at(endpoints, n), clock);
+    let shown = steps::show::show(e, out);
     Called {
         answer: Answer::Done,
         entry: Entry::At(n),
         count: shown.count,
         failsafe: shown.failsafe,
-        device: after_clock(device, clock),
+        device: Device {
+            endpoints: ticked_with(endpoints, clock, n, e),
+            last: Timestamp::At(clock),
+            count: device.count,
+        },
     }
 }

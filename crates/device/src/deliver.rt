@@ -49,12 +49,14 @@ fn deliver_to(
             refused(answer, clock, 0, device)
         }
         Entry::At(n) => {
-            let before = before_entry(device, clock, short, n);
+            let last = device.last;
+            let endpoints = device.endpoints;
+            let e = endpoint_at(endpoints, n);
+            let before = before_entry(last, device.count, n, e, clock, short);
             if !is_done(before) {
                 return refused(before, clock, n, device);
             }
-            let endpoints = device.endpoints;
-            let step = steps::deliver::deliver(endpoint_at(endpoints, n), clock, fields, body, out);
+            let step = steps::deliver::deliver(e, clock, fields, body, out);
             acted(step, clock, n, device)
         }
     }

@@ -10,11 +10,12 @@ use endpoint::Answer;
 use endpoint::Endpoint;
 use endpoint::Timestamp;
 
-// Up to 8 connections: the first count of the table. A count above 8 counts as 8.
+// Up to 8 connections: the first count of the table. A count above 8 counts as 8. The table stands first, and the device first in
+// Called, so that the compiler joins its copies.
 pub struct Device {
+    pub endpoints: [Endpoint; 8],
     pub last: Timestamp,
     pub count: u8,
-    pub endpoints: [Endpoint; 8],
 }
 
 // The entry that an answer carries, if any: none is not entry 0.
@@ -26,9 +27,9 @@ pub enum Entry {
 // What a call answers: with its entry, the bytes written to the lent output, the mark 'fail-safe' of a show, and the device it
 // leaves.
 pub struct Called {
+    pub device: Device,
     pub answer: Answer,
     pub entry: Entry,
     pub count: usize,
     pub failsafe: bool,
-    pub device: Device,
 }

@@ -1,13 +1,13 @@
 // The table of connections: its entries, and the clock step on all of them.
 ghost use mathlib.Core.Path.{_≡_};
-ghost use Prim.Native.Nat.{_≤_};
 ghost use lib.ListN.{set};
 ghost use Rattle.steps.specs.Calls.{freshOf};
 ghost use Rattle.device.specs.Tables.{noSettings, isEntry, endpointAt, entryOf, tickedAll};
 use super::Entry;
 use endpoint::Endpoint;
 use endpoint::Settings;
-use endpoint::time::tick;
+use endpoint::time::ended;
+use endpoint::time::expired;
 use steps::turns::fresh;
 
 // A place of the table that holds no connection.
@@ -42,17 +42,6 @@ pub fn endpoint_at(endpoints: [Endpoint; 8], n: u32) -> Endpoint
     no_connection()
 }
 
-// The table with a connection at a place; past the table as it was.
-pub fn place(endpoints: [Endpoint; 8], n: u32, endpoint: Endpoint) -> [Endpoint; 8]
-    ensures { λ r. ⌜ r ≡ set endpoints n endpoint ⌝ }
-{
-    let mut table = endpoints;
-    if n < 8 {
-        table[n as usize] = endpoint;
-    }
-    table
-}
-
 // The entry of a CID, searched from the last connection down.
 pub fn find(endpoints: [Endpoint; 8], count: u8, cid: u32) -> Entry
     ensures { λ r. ⌜ r ≡ entryOf cid count endpoints ⌝ }
@@ -70,15 +59,33 @@ pub fn find(endpoints: [Endpoint; 8], count: u8, cid: u32) -> Entry
     found
 }
 
-// Every connection whose timer has expired is ended; the others stay as they are.
-pub fn tick_all(endpoints: [Endpoint; 8], clock: u64) -> [Endpoint; 8]
-    ensures { λ r. ⌜ r ≡ tickedAll clock endpoints ⌝ }
+// Every connection whose timer has expired is ended, the others stay as they are; then one is put at a place, past the table
+// none. Only what changes is stored.
+pub fn ticked_with(
+    endpoints: [Endpoint; 8],
+    clock: u64,
+    n: u32,
+    endpoint: Endpoint,
+) -> [Endpoint; 8]
+    ensures { λ r. ⌜ r ≡ set (tickedAll clock endpoints) n endpoint ⌝ }
 {
     let mut ticked = endpoints;
     let mut i = 0;
     while i < 8 {
-        ticked[i] = tick(ticked[i], clock);
+        if expired(ticked[i], clock) {
+            ticked[i] = ended(ticked[i]);
+        }
         i += 1;
     }
+    if n < 8 {
+        ticked[n as usize] = endpoint;
+    }
     ticked
+}
+
+// The clock step on every connection.
+pub fn tick_all(endpoints: [Endpoint; 8], clock: u64) -> [Endpoint; 8]
+    ensures { λ r. ⌜ r ≡ tickedAll clock endpoints ⌝ }
+{
+    ticked_with(endpoints, clock, 8, no_connection())
 }

@@ -35,12 +35,12 @@ use Rattle.device.specs.declared.Device.{Device}
 use Rattle.device.specs.declared.Entry.{Entry}
 use Rattle.device.specs.declared.Entry.the-variants.{Absent, At}
 use Rattle.device.specs.Tables.{endpointAt, entryOf}
-use Rattle.device.specs.Clock.{isReading, afterClock}
+use Rattle.device.specs.Clock.{isReading}
 use Rattle.device.specs.Calls.{Result, admit, refusedOf, isShort, beforeShow, shownIn, reasonOf, byEntry, byReading}
 use Rattle.device.proofs.OnEntry.{start-quiet, restart-quiet}
 use Rattle.link.specs.Runs as L
 use Rattle.devices.specs.Runs.{Call, start, send, deliver, stop, restart, show, callIn, isOf, isRefreshIn, isFrameOf, isRefreshOf, Sent, frameBy, logged, lastOf, mayDeliver, handsBytes, tookBy, isAt, showsValue, shownBy}
-use Rattle.devices.proofs.Tables.{Like, like-at, at, entry-like, entry-found}
+use Rattle.devices.proofs.Tables.{Like, like-tick, like-at, ticked-at, at, entry-like, entry-found}
 use Rattle.devices.proofs.Loaded.{Table}
 use Rattle.devices.proofs.Logs.{bytes-of, toLog, AllGood, no-more, last-of}
 use Rattle.devices.proofs.Idle.{call-expired, call-timely, tick-expired, tick-timely}
@@ -172,7 +172,7 @@ module _ (cid : ℕ) (slave : Bool) (m : ℕ) (d₀ : Device) (n : ℕ) (T : Tab
       ap (λ (b : Bool). b && (true && not (isFailSafe x))) (ap (λ (y : Entry). isAt y n) the-entry ∙ eq-eqb n n refl) in
       record {
         by = L.show;
-        endpoint = ap (λ (r : Result). endpointAt (r .device .endpoints) n) q ∙ clocked-at cid slave m d₀ n T d same t room reading log took ∙ sym (c .0);
+        endpoint = ap (λ (r : Result). endpointAt (r .device .endpoints) n) q ∙ ticked-at d t n ∙ sym (c .0);
         logs = ap (λ (b : Bool). cond {A = List Sent} b (record { slave = slave; moment = m; bytes = []; lent = [] } ∷ []) []) (empty cid) ∙ sym (ap (λ (w : Written). toLog (L.logged slave m L.show w)) (c .1));
         good = subst (λ (w : Written). AllGood cid (L.logged slave m L.show w)) (sym (c .1)) no-more;
         shows = ap (shownBy cid slave d m took (length log) (show n)) q
@@ -181,7 +181,7 @@ module _ (cid : ℕ) (slave : Bool) (m : ℕ) (d₀ : Device) (n : ℕ) (T : Tab
             ∙ sym (ap (L.shownBy slave m took (length log) L.show) (c .0));
         takes = refl;
         may = refl;
-        like = subst (λ (r : Result). Like (r .device) d) (sym q) (clocked-like cid slave m d₀ n T d same t room reading log took);
+        like = subst (λ (r : Result). Like (r .device) d) (sym q) (like-tick d t);
       }
 
   showing : (k : ℕ) → Matches cid slave m d n t room log took (show k)
@@ -196,10 +196,10 @@ module _ (cid : ℕ) (slave : Bool) (m : ℕ) (d₀ : Device) (n : ℕ) (T : Tab
       (λ b.
       let q : callIn d t room (show k) ≡ shownIn x t k d = ap (λ (b : Bool). cond b (shownIn x t k d) (refusedOf a t k d)) h in
       idle cid slave m d₀ n T d same t room reading log took (show k)
-      (ap (λ (r : Result). endpointAt (r .device .endpoints) n) q ∙ clocked-at cid slave m d₀ n T d same t room reading log took) (empty cid)
+      (ap (λ (r : Result). endpointAt (r .device .endpoints) n) q ∙ ticked-at d t n) (empty cid)
       (ap (λ (i : Bool). i && (isDone (callIn d t room (show k) .answer) && not (callIn d t room (show k) .failsafe)))
       (ap (λ (y : Entry). isAt y k) the-entry ∙ b)) refl
-      (subst (λ (r : Result). Like (r .device) d) (sym q) (clocked-like cid slave m d₀ n T d same t room reading log took))))
+      (subst (λ (r : Result). Like (r .device) d) (sym q) (like-tick d t))))
       (λ h.
       let q : callIn d t room (show k) ≡ refusedOf a t k d = ap (λ (b : Bool). cond b (shownIn x t k d) (refusedOf a t k d)) h in
       idle cid slave m d₀ n T d same t room reading log took (show k)

@@ -197,8 +197,8 @@ module _ (cid : ℕ) (slave : Bool) (m : ℕ) (d₀ : Device) (n : ℕ) (T : Tab
 
       acted-like : Like (callIn d t room call .device) d
       acted-like = subst (λ (r : Result). Like (r .device) d) (sym acted)
-          (like-trans (like-placed (afterClock t d) k (act (endpointAt (d .endpoints) k) .endpoint)
-          (E .keeps (endpointAt (d .endpoints) k) ∙ sym (like-at clocked-like k))) clocked-like)
+          (like-trans (like-placed (clockStep t d) k (act (endpointAt (d .endpoints) k) .endpoint)
+          (E .keeps (endpointAt (d .endpoints) k) ∙ sym (like-at (like-tick d t) k))) (like-tick d t))
 
       -- on another connection
       other : (k ≡ n → ⊥) → Matches cid slave m d n t room log took call
@@ -206,7 +206,7 @@ module _ (cid : ℕ) (slave : Bool) (m : ℕ) (d₀ : Device) (n : ℕ) (T : Tab
           let o = act (endpointAt (d .endpoints) k) in
           idle call
           (ap (λ (r : Result). endpointAt (r .device .endpoints) n) acted
-          ∙ placed-there (afterClock t d) k n (o .endpoint) (λ q. ne (sym q)) ∙ clocked-at)
+          ∙ placed-there (clockStep t d) k n (o .endpoint) (λ q. ne (sym q)) ∙ ticked-at d t n)
           (ap (λ (r : Result). isFrameOf cid (frameBy call (r .writes))) acted ∙ ap (isFrameOf cid) (E .frames (endpointAt (d .endpoints) k))
           ∙ other-frame cid (endpointAt (d .endpoints) k) (o .writes) (E .carries (endpointAt (d .endpoints) k))
           (E .typed (endpointAt (d .endpoints) k) fits)
@@ -221,11 +221,11 @@ module _ (cid : ℕ) (slave : Bool) (m : ℕ) (d₀ : Device) (n : ℕ) (T : Tab
         let q = acted n E h in
         let p : L.callOf e t by ≡ o = call-timely e t by (told n E h .1) ∙ E .acts e in
         let c : e .settings .connection ≡ cid = ap (λ (s : Settings). s .connection) (like-at same n) ∙ T .has in
-        let l : n < length (afterClock t d .endpoints) =
-        subst (λ (i : ℕ). n < i) (sym (like-length clocked-like ∙ like-length same ∙ T .length8)) (T .within) in
+        let l : n < length (clockStep t d .endpoints) =
+        subst (λ (i : ℕ). n < i) (sym (like-length (like-tick d t) ∙ like-length same ∙ T .length8)) (T .within) in
         record {
           by = by;
-          endpoint = ap (λ (r : Result). endpointAt (r .device .endpoints) n) q ∙ placed-here (afterClock t d) n (o .endpoint) l
+          endpoint = ap (λ (r : Result). endpointAt (r .device .endpoints) n) q ∙ placed-here (clockStep t d) n (o .endpoint) l
               ∙ sym (ap (λ (y : Outcome). y .endpoint) p);
           logs = ap (λ (r : Result). logged cid slave m call (frameBy call (r .writes))) q ∙ ap (logged cid slave m call) (E .frames e)
               ∙ own-log cid slave m call by e (o .writes) (E .carries e) (E .typed e (fits n E h)) c (E .lent)

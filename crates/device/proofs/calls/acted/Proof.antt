@@ -8,5 +8,4 @@ acted-spec =
     tie.close
     (tie.spec
     (λ c κs. search needs)
-    (λ c κs. search needs)
-    (λ c. rw (c .place .ensures, c .before .before .after-clock .ensures)))
+    (λ c. rw (c .ticked-with .ensures)))

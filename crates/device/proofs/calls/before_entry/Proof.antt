@@ -10,5 +10,4 @@ before-entry-spec =
     (λ c κs. search needs)
     (λ c κs. search needs)
     (λ c κs. search needs)
-    (λ c κs. search needs)
-    (λ c. rw (c .admitted .ensures, c .before .admitted-entry .ensures, c .before .before .is-timely .ensures, c .before .before .before .endpoint-at .ensures)))
+    (λ c. rw (c .admitted .ensures, c .before .admitted-entry .ensures, c .before .before .is-timely .ensures)))

@@ -1,8 +1,10 @@
 -- `device::calls::stop` meets its contract.
 use borrow.Author.Needs.{needs}
 use borrow.Author.Tests.{not-true, not-false}
+use lib.ListN.{length}
 use mathlib.Core.Path.{sym, _∙_}
 use Rattle.device.proofs.OnEntry.{refused-says, acted-says}
+use Rattle.device.specs.Calls.{isShort, beforeEntry}
 use Rattle.steps.specs.Calls.{stopOf}
 use Rattle.device.proofs.calls.stop.Statement.{statement}
 use Rattle.device.proofs.calls.stop.Tie as tie
@@ -11,19 +13,21 @@ returns : tie.Need-returns
 returns c =
     let i = c .before in
     let b = i .before .before in
-    let a = b .before .before .args in
-    refused-says (a .clock) (a .n) (a .device) _ _ _ (b .before-entry .ensures) (a .out .now) (c .refused .result)
+    let p = b .before in
+    let a = p .before .before .before .args in
+    refused-says (a .clock) (a .n) (a .device) _ (beforeEntry (a .device) (a .clock) (isShort (length (a .out .now))) (a .n))
+    (b .before-entry .result) (rw (← p .endpoint-at .ensures) (b .before-entry .ensures)) (a .out .now) (c .refused .result)
     (sym (i .before .is-done .ensures) ∙ not-true _ (i .if1 .taken)) (c .refused .ensures)
 
 returns-2 : tie.Need-returns-2
 returns-2 c =
     let s = c .before .before .before in
-    let p = s .before .before in
-    let i = p .before .before in
+    let i = s .before .before in
     let b = i .before .before in
-    let a = b .before .before .args in
+    let p = b .before in
+    let a = p .before .before .before .args in
     acted-says (λ e. stopOf e (a .clock)) (a .device) (a .clock) (a .n) (a .out .now) _ (b .before-entry .result)
-    (s .stop .result) (c .acted .result) (b .before-entry .ensures)
+    (s .stop .result) (c .acted .result) (rw (← p .endpoint-at .ensures) (b .before-entry .ensures))
     (sym (i .before .is-done .ensures) ∙ not-false _ (i .if1 .left))
     (rw (← p .endpoint-at .ensures) (s .stop .ensures)) (c .acted .ensures)
 
@@ -34,8 +38,8 @@ stop-spec =
     (λ c κs. search needs)
     (λ c κs. search needs)
     (λ c κs. search needs)
-    returns
     (λ c κs. search needs)
+    returns
     (λ c κs. search needs)
     (λ c κs. search needs)
     (λ c. search needs)
