@@ -1,5 +1,5 @@
 -- The entry of a CID, searched from the last place of the table down to the first.
-use mathlib.Core.Path.{_≡_, refl, sym, ap, ap₂, _∙_}
+use mathlib.Core.Path.{_≡_, refl, sym, ap, _∙_}
 use mathlib.Core.Bool.{Bool, true, false, _&&_, cond}
 use mathlib.Core.List.{List, [], _∷_}
 use Prim.Native.Nat.{ℕ, zero, suc, _≤_, _<_}
@@ -10,8 +10,7 @@ use lib.ListN.{length, getD, take, drop}
 use borrow.Author.Tests.{ltb-true, ltb-false}
 use Rattle.frame.proofs.Alike.{and-left, and-right}
 use Rattle.endpoint.specs.declared.Endpoint.{Endpoint}
-use Rattle.device.specs.declared.Entry.{Entry}
-use Rattle.device.specs.declared.Entry.the-variants.{Absent, At}
+use Rattle.device.specs.declared.Entry.the-variants.{At}
 use Rattle.device.specs.Tables.{findFrom}
 
 -- past the connections nothing is left

@@ -1,6 +1,6 @@
 -- A call on an entry: what a function of `steps` told is what the device's call comes to.
 use mathlib.Core.Path.{_≡_, refl, sym, ap, _∙_}
-use mathlib.Core.Bool.{Bool, true, false, _&&_, not, cond, true≢false, false≢true}
+use mathlib.Core.Bool.{Bool, true, false, _&&_, not, cond, false≢true}
 use mathlib.Core.List.{List, []}
 use Prim.Native.Nat.{ℕ}
 use lib.Dec.{ltb}
@@ -11,22 +11,22 @@ use Rattle.endpoint.specs.declared.State.the-variants.{Close, Terminate}
 use Rattle.endpoint.specs.declared.Endpoint.{Endpoint}
 use Rattle.endpoint.specs.declared.Reason.the-variants as R
 use Rattle.endpoint.specs.declared.Answer.{Answer}
-use Rattle.endpoint.specs.declared.Answer.the-variants.{Done, Dropped, Ended}
+use Rattle.endpoint.specs.declared.Answer.the-variants.{Done, Dropped}
 use Rattle.endpoint.specs.Answers.{isDone}
 use Rattle.endpoint.specs.Table.{isState}
 use Rattle.endpoint.specs.Time.{afterTick}
 use Rattle.steps.proofs.Keeps.{bcase}
 use Rattle.steps.specs.declared.Stepped.{Stepped}
 use Rattle.steps.specs.declared.Shown.{Shown}
-use Rattle.steps.specs.Frames.{Written, nothing, bytesOf}
-use Rattle.steps.specs.Calls.{Outcome, outcome, dropped, startedOf, startOf, restartedOf, restartOf, isFailSafe, shownOf}
+use Rattle.steps.specs.Frames.{nothing, bytesOf}
+use Rattle.steps.specs.Calls.{Outcome, outcome, dropped, startedOf, startOf, restartedOf, restartOf, shownOf}
 use Rattle.steps.specs.Says.{withRoom, plainStep, StepSays, shownTo, ShowSays}
 use Rattle.device.specs.declared.Device.{Device}
 use Rattle.device.specs.declared.Entry.the-variants.{At}
 use Rattle.device.specs.declared.Called.{Called}
 use Rattle.device.specs.Tables.{endpointAt}
 use Rattle.device.specs.Clock.{isReading, clockStep}
-use Rattle.device.specs.Calls.{Result, admit, admitEntry, timely, refusedOf, unlessRefused, actedOf, beforeEntry, onEntry, isShort, beforeShow, shownIn, showIn, calledOf, stepCalled, CallSays}
+use Rattle.device.specs.Calls.{Result, admit, refusedOf, unlessRefused, actedOf, beforeEntry, onEntry, isShort, beforeShow, shownIn, showIn, calledOf, stepCalled, CallSays}
 
 -- a call that goes on was lent enough room
 pub roomy : (last : Timestamp) (t : ℕ) (short : Bool) (a : Answer) → isDone (admit last t short a) ≡ true → short ≡ false

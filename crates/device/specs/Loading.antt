@@ -1,14 +1,11 @@
 -- Loading a settings list: 0, or number 18.
-use mathlib.Core.Path.{_≡_}
-use mathlib.Core.Bool.{Bool, cond}
+use mathlib.Core.Bool.{cond}
 use mathlib.Core.List.{List}
 use Prim.Native.Nat.{ℕ}
 use Rattle.endpoint.specs.declared.Timestamp.the-variants.{Never}
 use Rattle.endpoint.specs.declared.Reason.the-variants as R
-use Rattle.endpoint.specs.declared.Answer.{Answer}
 use Rattle.endpoint.specs.declared.Answer.the-variants.{Done, Dropped}
 use Rattle.settings.specs.Lists.{countOf, isList}
-use Rattle.device.specs.declared.Device.{Device}
 use Rattle.device.specs.declared.load.Loaded.{Loaded}
 use Rattle.device.specs.Tables.{freshUpTo, unloaded}
 

@@ -1,6 +1,6 @@
 -- Every call on a device has its match on the endpoint of the CID.
 use mathlib.Core.Path.{_≡_, refl, sym, ap, subst, _∙_}
-use mathlib.Core.Bool.{Bool, true, false, _&&_, _||_, not, cond, true≢false, false≢true}
+use mathlib.Core.Bool.{Bool, true, false, _&&_, _||_, not, cond}
 use mathlib.Core.List.{List, [], _∷_}
 use Prim.Native.Nat.{ℕ}
 use lib.Dec.{eqb, leb}
@@ -22,7 +22,7 @@ use Rattle.endpoint.specs.declared.Endpoint.{Endpoint}
 use Rattle.endpoint.specs.declared.Reason.{Reason}
 use Rattle.endpoint.specs.declared.Reason.the-variants as R
 use Rattle.endpoint.specs.declared.Answer.{Answer}
-use Rattle.endpoint.specs.declared.Answer.the-variants.{Done, Dropped, Ended}
+use Rattle.endpoint.specs.declared.Answer.the-variants.{Dropped}
 use Rattle.endpoint.specs.Answers.{isDone}
 use Rattle.endpoint.specs.Time.{isExpired, afterTick}
 use Rattle.steps.specs.Frames.{Written, nothing, bytesOf}
@@ -39,12 +39,12 @@ use Rattle.device.specs.Clock.{isReading}
 use Rattle.device.specs.Calls.{Result, admit, refusedOf, isShort, beforeShow, shownIn, reasonOf, byEntry, byReading}
 use Rattle.device.proofs.OnEntry.{start-quiet, restart-quiet}
 use Rattle.link.specs.Runs as L
-use Rattle.devices.specs.Runs.{Call, start, send, deliver, stop, restart, show, callIn, isOf, isRefreshIn, isFrameOf, isRefreshOf, Sent, frameBy, logged, lastOf, mayDeliver, handsBytes, tookBy, isAt, showsValue, shownBy}
+use Rattle.devices.specs.Runs.{Call, start, send, deliver, stop, restart, show, callIn, isOf, isRefreshIn, isFrameOf, isRefreshOf, Sent, logged, lastOf, mayDeliver, handsBytes, isAt, showsValue, shownBy}
 use Rattle.devices.proofs.Tables.{Like, like-tick, like-at, ticked-at, at, entry-like, entry-found}
 use Rattle.devices.proofs.Loaded.{Table}
 use Rattle.devices.proofs.Logs.{bytes-of, toLog, AllGood, no-more, last-of}
 use Rattle.devices.proofs.Idle.{call-expired, call-timely, tick-expired, tick-timely}
-use Rattle.devices.proofs.OneCall.{empty, Matches, idle, clocked-at, clocked-like, EntryCall, entry-call}
+use Rattle.devices.proofs.OneCall.{empty, Matches, idle, clocked-at, clocked-like, entry-call}
 
 and-false : (b : Bool) → (b && false) ≡ false
 and-false true = refl
@@ -221,9 +221,6 @@ module _ (cid : ℕ) (slave : Bool) (m : ℕ) (d₀ : Device) (n : ℕ) (T : Tab
 
   module _ (s : List ℕ) (bytes : handsBytes (deliver s) ≡ true) (may : mayDeliver cid (toLog log) (deliver s) ≡ true)
       (f : Fields) (from to : ℕ) (is-frame : readingOf s ≡ Frame f from to) where
-    body : List ℕ
-    body = slice from to s
-
     back : Writable f (slice from to s) × (frameBytes f (slice from to s) ≡ s)
     back = round-trip .back s f from to (bytes-of s bytes) is-frame
 

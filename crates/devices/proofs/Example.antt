@@ -1,6 +1,6 @@
 -- The theorem's premises can be met: two devices are loaded, the line starts, refreshes both ways, and shows both values. All of it is computed.
 use mathlib.Core.Path.{_≡_, refl}
-use mathlib.Core.Bool.{Bool, true, false}
+use mathlib.Core.Bool.{true, false}
 use mathlib.Core.List.{List, [], _∷_, _++_}
 use Prim.Native.Nat.{ℕ, _+_}
 use Rattle.crc.specs.Crc.{bitStep, bitSteps, byteStep, crcFrom, crc}
@@ -12,7 +12,7 @@ use Rattle.frame.specs.Writing.{headBytes, withCheckWord, twice, subBytes, fram
 use Rattle.steps.specs.Frames.{bytesOf, plainFields, setupData}
 use Rattle.settings.specs.Lists.{connectionAt, settingsAt, isConnectionAt, isNewAt, areConnections, isList}
 use Rattle.device.specs.Tables.{endpointAt, findFrom, entryOf, freshUpTo, tickedAll}
-use Rattle.link.specs.Runs.{Clocks, Show}
+use Rattle.link.specs.Runs.{Clocks}
 use Rattle.devices.specs.Runs.{Call, start, send, deliver, show, Event, areBytes, lastFrom, lastOf, Run, afterAll}
 use Rattle.devices.specs.Demand.{Holds, runOf}
 

@@ -2,7 +2,6 @@
 -- same.
 use mathlib.Core.Path.{_≡_, refl, sym, ap, _∙_}
 use mathlib.Core.Bool.{Bool, true, false, _&&_, not, cond}
-use mathlib.Core.List.{List, []}
 use Prim.Native.Nat.{ℕ}
 use lib.Dec.{eqb}
 use borrow.Author.Tests.{eqb-true}
@@ -15,7 +14,7 @@ use Rattle.endpoint.specs.declared.Answer.the-variants.{Done, Dropped, Ended}
 use Rattle.endpoint.specs.Table.{stateNumber, isState}
 use Rattle.endpoint.specs.Time.{isExpired, endedOf, afterTick}
 use Rattle.steps.specs.Frames.{nothing}
-use Rattle.steps.specs.Calls.{Outcome, outcome, dropped, startedOf, startOf, restartedOf, restartOf}
+use Rattle.steps.specs.Calls.{outcome, dropped, startedOf, restartedOf}
 use Rattle.steps.proofs.Keeps.{bcase}
 use Rattle.link.specs.Runs as L
 

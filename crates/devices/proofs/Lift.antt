@@ -3,14 +3,12 @@
 use mathlib.Core.Path.{_≡_, refl, sym, ap, ap₂, subst, _∙_}
 use mathlib.Core.Bool.{Bool, true, false, _&&_, not, cond}
 use mathlib.Core.List.{List, [], _∷_, _++_}
-use Prim.Native.Nat.{ℕ, zero, suc, _+_, _-_, _≤_, _<_}
-use native.Mathlib.Nat.{not-suc-le-zero}
+use Prim.Native.Nat.{ℕ, suc, _+_, _-_, _≤_, _<_}
 use native.Mathlib.Omega.{arith}
 use lib.Dec.{leb}
 use borrow.Author.Tests.{eq-eqb}
 use lib.ListN.{length}
 use Rattle.frame.specs.declared.Command.the-variants as K
-use Rattle.frame.specs.Control.{is}
 use Rattle.frame.proofs.Alike.{and-left, and-right, both}
 use Rattle.endpoint.specs.declared.Settings.{Settings}
 use Rattle.endpoint.specs.declared.Timestamp.{Timestamp}
@@ -27,12 +25,11 @@ use Rattle.device.specs.Loading.{loadedOf}
 use Rattle.link.specs.Runs as L
 use Rattle.link.specs.Fresh as F
 use Rattle.link.proofs.AgeProof.{age-theorem}
-use Rattle.devices.specs.Runs.{Call, Event, callIn, isRefreshOf, Sent, sentAt, frameBy, logged, mayDeliver, handsBytes, tookBy, shownBy, Run, afterCall, afterEvent, afterAll, begun}
-use Rattle.devices.specs.Demand.{Holds, settingsIn, ItsSend, Fresh, runOf, Demand, SilentSince, Silence}
+use Rattle.devices.specs.Runs.{Call, Event, callIn, Sent, sentAt, frameBy, logged, mayDeliver, handsBytes, tookBy, shownBy, Run, afterCall, afterEvent, afterAll, begun}
+use Rattle.devices.specs.Demand.{Holds, settingsIn, ItsSend, Fresh, runOf, Demand, Silence}
 use Rattle.devices.proofs.Tables.{Like, like-trans}
 use Rattle.devices.proofs.Loaded.{Table, loaded}
-use Rattle.devices.proofs.Logs.{refresh-of, toSent, toLog, toLog-append, toLog-length, sent-at, Good, AllGood, no-more, good-append, good-at}
-use Rattle.devices.proofs.OneCall.{Matches}
+use Rattle.devices.proofs.Logs.{refresh-of, toSent, toLog, toLog-append, toLog-length, sent-at, AllGood, no-more, good-append, good-at}
 use Rattle.devices.proofs.EachCall.{matches}
 
 reading-limit : (last : Timestamp) (t : ℕ) → isReading last t ≡ true → leb t lastReading ≡ true
@@ -110,9 +107,6 @@ module _ (wm ws : List ℕ) (cid : ℕ) (hm : Holds wm cid false) (hs : Holds ws
         may = and-left (mayDeliver cid (l .log) (v .call)) _ b;
         later = and-right (mayDeliver cid (l .log) (v .call)) _ b;
       }
-
-  eventBy : Event → L.Call → L.Event
-  eventBy v k = record { slave = v .slave; clock = v .clock; call = k }
 
   still-allowed : (l : Run) (x : L.Link) (v : Event) (k : L.Call) → Sim l x → Kept l v → L.mayDeliver (x .log) k ≡ true
       → leb (v .clock) lastReading ≡ true

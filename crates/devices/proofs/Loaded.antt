@@ -1,13 +1,13 @@
 -- What a device just loaded holds: settings in their ranges, each connection in Close, no CID twice.
 use mathlib.Core.Path.{_≡_, refl, sym, ap, subst, _∙_}
-use mathlib.Core.Bool.{Bool, true, false, _&&_, not, cond, true≢false, false≢true}
-use mathlib.Core.List.{List, [], _∷_}
-use Prim.Native.Nat.{ℕ, zero, suc, _+_, _*_, _/_, _%_, _≤_, _<_}
+use mathlib.Core.Bool.{Bool, true, false, _&&_, not, cond, false≢true}
+use mathlib.Core.List.{List}
+use Prim.Native.Nat.{ℕ, zero, suc, _/_, _%_, _≤_, _<_}
 use native.Mathlib.Nat.{not-suc-le-zero}
 use native.Mathlib.Omega.{arith}
 use native.Mathlib.Decide.{decLt}
 use lib.Dec.{eqb, ltb, leb}
-use lib.ListN.{length, getD, set, replicate, length-set, length-replicate}
+use lib.ListN.{length, getD, length-set, length-replicate}
 use lib.Seq.{getD-set-same, getD-set-other}
 use borrow.Author.Tests.{leb-true, eqb-false, not-true}
 use Rattle.frame.proofs.Alike.{and-left, and-right}
@@ -19,8 +19,7 @@ use Rattle.endpoint.specs.declared.Answer.the-variants.{Done, Dropped}
 use Rattle.endpoint.specs.Answers.{isDone}
 use Rattle.steps.specs.Calls.{freshOf}
 use Rattle.steps.specs.Laws.{SettingsFit}
-use Rattle.steps.proofs.Keeps.{bcase}
-use Rattle.settings.specs.Words.{restOf, isTicks, hasKinds, hasRanges}
+use Rattle.settings.specs.Words.{restOf, isTicks, hasKinds}
 use Rattle.settings.specs.Lists.{wordOf, connectionAt, settingsAt, isConnectionAt, isNewAt, areConnections, countOf, isList}
 use Rattle.settings.proofs.Tests.{count-le}
 use Rattle.device.specs.declared.Device.{Device}
@@ -29,7 +28,7 @@ use Rattle.device.specs.declared.load.Loaded.{Loaded}
 use Rattle.device.specs.Tables.{noSettings, endpointAt, entryOf, freshUpTo, unloaded}
 use Rattle.device.specs.Loading.{loadedOf}
 use Rattle.link.specs.Fresh.{Ticks}
-use Rattle.devices.proofs.Tables.{Found, entry-found}
+use Rattle.devices.proofs.Tables.{entry-found}
 
 -- ---- lists
 are-at : (ws : List ℕ) (n i : ℕ) → areConnections ws n ≡ true → i < n

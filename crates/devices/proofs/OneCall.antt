@@ -1,9 +1,8 @@
 -- One call on a device, seen from one CID's entry: some call on that endpoint does the same to it, and to what is written and shown of the CID.
 use mathlib.Core.Path.{_≡_, refl, sym, ap, subst, _∙_}
-use mathlib.Core.Bool.{Bool, true, false, _&&_, _||_, not, cond, true≢false, false≢true}
-use mathlib.Core.List.{List, [], _∷_, _++_}
+use mathlib.Core.Bool.{Bool, true, false, not, cond, false≢true}
+use mathlib.Core.List.{List, [], _∷_}
 use Prim.Native.Nat.{ℕ, _<_}
-use native.Mathlib.Omega.{arith}
 use lib.Dec.{eqb, ltb}
 use lib.ListN.{length}
 use borrow.Author.Tests.{ltb-true, eqb-true, eqb-false, eq-eqb, ne-eqb}
@@ -12,7 +11,6 @@ use Rattle.frame.specs.Reading.{readingOf}
 use Rattle.frame.specs.Writing.{frameBytes}
 use Rattle.frame.specs.RoundTrip.{Writable}
 use Rattle.frame.proofs.Alike.{and-left, and-right}
-use Rattle.endpoint.specs.declared.Timestamp.{Timestamp}
 use Rattle.endpoint.specs.declared.Settings.{Settings}
 use Rattle.endpoint.specs.declared.Endpoint.{Endpoint}
 use Rattle.endpoint.specs.declared.Reason.the-variants as R
@@ -25,16 +23,15 @@ use Rattle.steps.specs.Calls.{Outcome}
 use Rattle.steps.specs.Laws.{Carries, SettingsFit, IsTyped}
 use Rattle.steps.proofs.Keeps.{bcase}
 use Rattle.device.specs.declared.Device.{Device}
-use Rattle.device.specs.declared.Entry.the-variants.{At}
 use Rattle.device.specs.Tables.{isEntry, endpointAt}
 use Rattle.device.specs.Clock.{isReading, clockStep, afterClock}
-use Rattle.device.specs.Calls.{Result, admit, refusedOf, unlessRefused, placed, actedOf, beforeEntry, onEntry}
+use Rattle.device.specs.Calls.{Result, refusedOf, actedOf, beforeEntry, onEntry}
 use Rattle.link.specs.Runs as L
-use Rattle.devices.specs.Runs.{Call, start, send, deliver, stop, restart, show, callIn, isFrameOf, Sent, frameBy, lentTo, logged, tookBy, showsValue, shownBy}
+use Rattle.devices.specs.Runs.{Call, callIn, isFrameOf, Sent, frameBy, lentTo, logged, tookBy, showsValue, shownBy}
 use Rattle.devices.proofs.Tables.{Like, like-trans, like-tick, like-at, like-length, ticked-at, placed-here, placed-there, like-placed}
 use Rattle.devices.proofs.Loaded.{Table}
-use Rattle.devices.proofs.Logs.{frame-of, toSent, toLog, Good, AllGood, no-more, and-more}
-use Rattle.devices.proofs.Idle.{Quiet, starts, restarts, Idle, idle-at, call-timely}
+use Rattle.devices.proofs.Logs.{frame-of, toSent, toLog, AllGood, no-more, and-more}
+use Rattle.devices.proofs.Idle.{Quiet, starts, restarts, idle-at, call-timely}
 
 -- ---- what a call on an entry that is not refused before its own step tells
 tells : (r s i x : Bool)
@@ -176,9 +173,6 @@ module _ (cid : ℕ) (slave : Bool) (m : ℕ) (d₀ : Device) (n : ℕ) (T : Tab
         (subst (λ (r : Result). Like (r .device) d) (sym q) clocked-like)
 
     module _ (k : ℕ) (E : EntryCall call act by k short) (h : isDone (beforeEntry d t short k) ≡ true) where
-      x : Endpoint
-      x = endpointAt (d .endpoints) k
-
       acted : callIn d t room call ≡ actedOf (act (endpointAt (d .endpoints) k)) t k d
       acted = E .is
           ∙ ap (λ (b : Bool). cond b (actedOf (act (endpointAt (d .endpoints) k)) t k d) (refusedOf (beforeEntry d t short k) t k d)) h

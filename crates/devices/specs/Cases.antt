@@ -1,17 +1,14 @@
 -- Document 01's cases that are proved ("Cases at each edge", the rows marked P): what the definitions give beside what the paper states.
 use mathlib.Core.Path.{_≡_}
-use mathlib.Core.Bool.{Bool, true, false, cond}
+use mathlib.Core.Bool.{true, false, cond}
 use mathlib.Core.List.{List, [], _∷_, map}
 use Prim.Native.Nat.{ℕ, _/_, _%_}
 use lib.ListN.{replicate}
-use Rattle.frame.specs.declared.Command.{Command}
 use Rattle.frame.specs.declared.Command.the-variants as K
-use Rattle.frame.specs.declared.Fields.{Fields}
 use Rattle.frame.specs.Control.{controlOf}
 use Rattle.endpoint.specs.declared.Settings.{Settings}
 use Rattle.endpoint.specs.declared.State.{State}
 use Rattle.endpoint.specs.declared.State.the-variants.{RefreshPending, Refresh}
-use Rattle.endpoint.specs.declared.Timestamp.{Timestamp}
 use Rattle.endpoint.specs.declared.Timestamp.the-variants.{Never, At}
 use Rattle.endpoint.specs.declared.Pending.the-variants.{Nothing}
 use Rattle.endpoint.specs.declared.Endpoint.{Endpoint}

@@ -6,7 +6,6 @@ use Prim.Native.Nat.{ℕ, suc, _+_, _≤_, _<_}
 use lib.ListN.{length}
 use Rattle.endpoint.specs.declared.Settings.{Settings}
 use Rattle.endpoint.specs.declared.Answer.the-variants.{Done}
-use Rattle.device.specs.declared.Device.{Device}
 use Rattle.device.specs.declared.Entry.the-variants.{At}
 use Rattle.device.specs.Tables.{endpointAt, entryOf}
 use Rattle.device.specs.Loading.{loadedOf}

@@ -2,7 +2,7 @@
 use borrow.Author.Needs.{needs}
 use borrow.Author.Tests.{not-true, not-false}
 use lib.ListN.{length}
-use mathlib.Core.Path.{_≡_, sym, ap, _∙_}
+use mathlib.Core.Path.{sym, _∙_}
 use Rattle.device.proofs.OnEntry.{refused-says, shown-says}
 use Rattle.device.proofs.Ticked.{shown-table}
 use Rattle.device.specs.Calls.{isShort, beforeShow}

@@ -2,7 +2,7 @@
 use borrow.Author.Needs.{needs}
 use borrow.Author.Tests.{not-true, not-false}
 use lib.ListN.{length}
-use mathlib.Core.Path.{_≡_, refl, sym, ap, _∙_}
+use mathlib.Core.Path.{refl, sym, _∙_}
 use Rattle.device.proofs.OnEntry.{silent, refused-says, acted-says}
 use Rattle.device.specs.Calls.{isShort, beforeEntry}
 use Rattle.steps.specs.Deliveries.{deliverOf}

@@ -1,14 +1,13 @@
 -- `device::load::fresh_up_to` meets its contract: so far the first i connections are set.
-use Prim.Native.Nat.{ℕ, _≤_, _-_}
+use Prim.Native.Nat.{_≤_, _-_}
 use borrow.Author.Needs.{needs}
 use lib.ListN.{set}
 use mathlib.Core.List.{List}
-use mathlib.Core.Path.{_≡_, refl, sym, ap, ap₂, _∙_}
+use mathlib.Core.Path.{_≡_, sym, ap, ap₂, _∙_}
 use native.Mathlib.Numerals.{add-one}
 use native.Mathlib.Omega.{arith}
 use Rattle.device.specs.Tables.{freshUpTo}
 use Rattle.endpoint.specs.declared.Endpoint.{Endpoint}
-use Rattle.settings.specs.Lists.{settingsAt}
 use Rattle.steps.specs.Calls.{freshOf}
 use Rattle.device.proofs.load.fresh_up_to.Statement.{statement}
 use Rattle.device.proofs.load.fresh_up_to.Tie as tie

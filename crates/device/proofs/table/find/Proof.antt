@@ -1,12 +1,10 @@
 -- `device::table::find` meets its contract: so far what is found from place i on.
-use Prim.Native.Nat.{ℕ, zero, suc, _≤_, _<_, _-_}
+use Prim.Native.Nat.{suc, _≤_, _<_, _-_}
 use borrow.Author.Needs.{needs}
-use lib.ListN.{length, getD, take, drop}
-use mathlib.Core.Path.{_≡_, refl, sym, ap, _∙_}
+use lib.ListN.{length, take, drop}
+use mathlib.Core.Path.{_≡_, sym, ap, _∙_}
 use native.Mathlib.Omega.{arith}
-use Rattle.steps.specs.Calls.{freshOf}
-use Rattle.device.specs.declared.Entry.the-variants.{Absent, At}
-use Rattle.device.specs.Tables.{noSettings, findFrom, entryOf}
+use Rattle.device.specs.Tables.{findFrom, entryOf}
 use Rattle.device.proofs.Finding.{none-past, hit, miss}
 use Rattle.device.proofs.table.find.Statement.{statement}
 use Rattle.device.proofs.table.find.Tie as tie
