@@ -1,4 +1,3 @@
 -- Laws that serve several functions, and other crates.
 pub mod EveryEntry
 pub mod Steps
-pub mod Width

@@ -1,27 +1,26 @@
 -- An accepted list of bytes is what writing its fields gives, and its fields can be written.
 use mathlib.Core.Path.{_≡_, refl, sym, ap, ap₂, _∙_, subst}
-use mathlib.Core.Bool.{Bool, true, false, _&&_, not, cond}
+use mathlib.Core.Bool.{Bool, true, false, not, cond}
 use mathlib.Core.List.{List, [], _∷_, _++_}
-use Prim.Native.Nat.{ℕ, zero, suc, _+_, _-_, _*_, _/_, _%_, _^_, _≤_, _<_}
+use Prim.Native.Nat.{ℕ, zero, suc, _+_, _-_, _/_, _%_, _^_, _≤_, _<_}
 use native.Mathlib.Numerals.{add-one, add-two, add-three}
 use native.Mathlib.Omega.{arith}
-use lib.Dec.{eqb, leb, lit<}
-use lib.ListN.{length, getD, take, drop, length-append, length-drop, take-append-drop}
-use lib.Seq.{slice, take-add, take-take, drop-drop, drop-cons, take-all, length-take-le, length-slice}
-use borrow.Author.Tests.{eqb-true, eq-eqb, leb-true, le-leb, lt-ltb}
+use lib.Dec.{eqb, lit<}
+use lib.ListN.{length, getD, take, drop, length-drop, take-append-drop}
+use lib.Seq.{slice, take-add, take-take, drop-drop, drop-cons, take-all, length-take-le}
+use borrow.Author.Tests.{eqb-true, eq-eqb, le-leb, lt-ltb}
 use Rattle.crc.specs.Bytes.{Bytes, none, more}
 use Rattle.crc.specs.Crc.{crc}
-use Rattle.frame.specs.declared.Session.{Session}
 use Rattle.frame.specs.declared.Fields.{Fields}
 use Rattle.frame.specs.declared.Fault.{Fault}
 use Rattle.frame.specs.declared.Fault.the-variants.{Length, Copies, CheckWord, Form}
 use Rattle.frame.specs.declared.Reading.{Reading}
 use Rattle.frame.specs.declared.Reading.the-variants.{Frame, Refused}
-use Rattle.frame.specs.Words.{wordOf, wordAt, wordBytes}
+use Rattle.frame.specs.Words.{wordAt, wordBytes}
 use Rattle.frame.specs.Control.{bit, sessionOf, controlOf, hasForm}
-use Rattle.frame.specs.Reading.{isFrameLength, same, hasCheckWord, fieldsOf, fieldsIn, isFormed, readingOfCopies, readingOf}
-use Rattle.frame.specs.Writing.{timeOf, carryOf, headBytes, withCheckWord, twice, subBytes, frameBytes, isBodyLength, isWritable}
-use Rattle.frame.specs.RoundTrip.{SessionFits, Typed, Writable}
+use Rattle.frame.specs.Reading.{isFrameLength, same, hasCheckWord, fieldsIn, isFormed, readingOfCopies, readingOf}
+use Rattle.frame.specs.Writing.{timeOf, carryOf, headBytes, withCheckWord, twice, subBytes, frameBytes, isWritable}
+use Rattle.frame.specs.RoundTrip.{SessionFits, Writable}
 use Rattle.frame.proofs.Alike.{and-left, and-right, both, same-eq}
 use Rattle.frame.proofs.Lengths.{frame-length, slice-from}
 use Rattle.frame.proofs.Digits.{word-of}

@@ -1,11 +1,11 @@
 -- Lengths as numbers: of a frame, of a body, of what is written; the rest of a slice.
-use mathlib.Core.Path.{_≡_, sym, ap, _∙_}
-use mathlib.Core.Bool.{true, _&&_}
+use mathlib.Core.Path.{_≡_, ap, _∙_}
+use mathlib.Core.Bool.{true}
 use mathlib.Core.List.{List}
 use Prim.Native.Nat.{ℕ, _+_, _-_, _*_, _%_, _^_, _≤_, _<_}
 use native.Mathlib.Nat.{le-refl}
 use native.Mathlib.Omega.{arith}
-use lib.Dec.{eqb, leb, ltb}
+use lib.Dec.{leb, ltb}
 use lib.ListN.{length, take, drop, length-drop, length-append}
 use lib.Seq.{slice, take-all, take-add, drop-at, length-take-le}
 use borrow.Author.Tests.{leb-true, ltb-true, eqb-true}
@@ -14,7 +14,7 @@ use Rattle.frame.specs.declared.Fields.{Fields}
 use Rattle.frame.specs.Words.{wordBytes}
 use Rattle.frame.specs.Control.{hasForm, controlOf}
 use Rattle.frame.specs.Reading.{isFrameLength}
-use Rattle.frame.specs.Writing.{timeOf, carryOf, headBytes, withCheckWord, twice, subBytes, frameBytes, isBodyLength, isWritable}
+use Rattle.frame.specs.Writing.{timeOf, carryOf, headBytes, withCheckWord, twice, subBytes, frameBytes, isWritable}
 use Rattle.frame.proofs.Alike.{and-left, and-right}
 
 pub record FrameLength (n : ℕ) : Type 0 where

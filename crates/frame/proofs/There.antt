@@ -1,23 +1,21 @@
 -- A written frame has no fault and reads back as its fields, its body where the reading says.
-use mathlib.Core.Path.{_≡_, refl, sym, ap, ap₂, _∙_}
-use mathlib.Core.Bool.{Bool, true, false, _&&_, not, cond}
+use mathlib.Core.Path.{_≡_, refl, sym, ap, _∙_}
+use mathlib.Core.Bool.{true, not, cond}
 use mathlib.Core.List.{List, [], _∷_, _++_, append-assoc}
-use Prim.Native.Nat.{ℕ, _+_, _-_, _*_, _/_, _%_, _^_, _≤_, _<_}
+use Prim.Native.Nat.{ℕ, _+_, _-_, _/_, _%_}
 use native.Mathlib.Omega.{arith}
-use lib.Dec.{eqb, leb}
-use lib.ListN.{length, getD, take, drop, length-append}
+use lib.ListN.{length, take, drop, length-append}
 use lib.Seq.{slice, take-at, drop-at, getD-append-add, getD-append-seam}
 use borrow.Author.Tests.{eq-eqb, le-leb}
 use Rattle.crc.specs.Crc.{crc}
 use Rattle.frame.specs.declared.Fields.{Fields}
 use Rattle.frame.specs.declared.Fault.the-variants.{Length, Copies, CheckWord, Form}
-use Rattle.frame.specs.declared.Reading.{Reading}
 use Rattle.frame.specs.declared.Reading.the-variants.{Frame, Refused}
 use Rattle.frame.specs.Words.{wordOf, wordAt, wordBytes}
-use Rattle.frame.specs.Control.{controlOf, hasForm}
-use Rattle.frame.specs.Reading.{isFrameLength, same, hasCheckWord, fieldsOf, fieldsIn, isFormed, readingOfCopies, readingOf}
+use Rattle.frame.specs.Control.{controlOf}
+use Rattle.frame.specs.Reading.{isFrameLength, hasCheckWord, fieldsOf, fieldsIn, isFormed, readingOfCopies, readingOf}
 use Rattle.frame.specs.Writing.{timeOf, carryOf, headBytes, withCheckWord, twice, subBytes, frameBytes}
-use Rattle.frame.specs.RoundTrip.{Typed, Writable}
+use Rattle.frame.specs.RoundTrip.{Writable}
 use Rattle.frame.proofs.Alike.{both, same-refl}
 use Rattle.frame.proofs.Lengths.{CanBeWritten, can-be-written, length-sub, length-frame, slice-from}
 use Rattle.frame.proofs.Digits.{of-word, fields-of-words}

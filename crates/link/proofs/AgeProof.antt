@@ -1,8 +1,8 @@
 -- The age theorem: the invariant holds along every list of calls, so every show has its send.
 use mathlib.Core.Path.{_≡_, refl, sym, ap, subst, _∙_}
-use mathlib.Core.Bool.{Bool, true, false, _&&_, not, cond, true≢false, false≢true}
+use mathlib.Core.Bool.{Bool, true, false, not, cond, false≢true}
 use mathlib.Core.List.{List, [], _∷_, _++_, append-nil}
-use Prim.Native.Nat.{ℕ, zero, suc, _+_, _≤_, _<_}
+use Prim.Native.Nat.{ℕ, _+_, _≤_}
 use native.Mathlib.Nat.{not-suc-le-zero}
 use native.Mathlib.Omega.{arith}
 use lib.Dec.{leb}
@@ -13,22 +13,21 @@ use Rattle.frame.specs.Control.{is}
 use Rattle.frame.proofs.Alike.{and-left, and-right}
 use Rattle.endpoint.specs.declared.Settings.{Settings}
 use Rattle.endpoint.specs.declared.Endpoint.{Endpoint}
-use Rattle.endpoint.specs.declared.Answer.{Answer}
-use Rattle.endpoint.specs.Time.{isExpired, endedOf}
-use Rattle.steps.specs.Calls.{freshOf, isFailSafe, shownOf}
+use Rattle.endpoint.specs.Time.{isExpired}
+use Rattle.steps.specs.Calls.{isFailSafe, shownOf}
 use Rattle.steps.proofs.Dispatch.{cond-false}
 use Rattle.steps.proofs.Keeps.{bcase}
 use Rattle.link.specs.Runs.{Clocks, momentOf, clockLimit, Call, start, send, deliver, stop, restart, show, Event, callOf, Entry, entryAt, logged, Show, showAt, Link, mayDeliver, tookBy, shownBy, afterEvent, afterAll, begun}
 use Rattle.link.specs.Fresh.{Paired, boundOf, ItsSend, Fresh, AgeTheorem, Silence}
-use Rattle.link.proofs.Marks.{Mark, size}
-use Rattle.link.proofs.Invariant.{restM, restS, Master, Slave, Inv}
+use Rattle.link.proofs.Marks.{size}
+use Rattle.link.proofs.Invariant.{restM, restS, Inv}
 use Rattle.link.proofs.Kept.{later}
 use Rattle.link.proofs.Relation.{termsOf, small-of, marks, Linked}
 use Rattle.link.proofs.Ends.{at-master, at-slave}
 use Rattle.link.proofs.AtMaster.{shown-m}
 use Rattle.link.proofs.AtSlave.{shown-s}
 use Rattle.link.proofs.Shown.{ShownAt}
-use Rattle.link.proofs.Sends.{Sent, ShowsInv, grow, add, sent-by}
+use Rattle.link.proofs.Sends.{ShowsInv, grow, add, sent-by}
 
 pub record RunInv (c : Clocks) (sm ss : Settings) (l : Link) : Type 0 where
   pub linked : Linked c sm ss (l .latest) (l .log) (l .master) (l .slave) (l .masterTook) (l .slaveTook)

@@ -1,13 +1,10 @@
 -- Each call at the master keeps the relation to the invariant.
 use mathlib.Core.Path.{_≡_, refl, sym, ap, subst, _∙_}
-use mathlib.Core.Bool.{Bool, true, false, _&&_, not, cond, true≢false, false≢true}
+use mathlib.Core.Bool.{Bool, true, false, not, cond, true≢false, false≢true}
 use mathlib.Core.List.{List, [], _∷_, _++_}
 use mathlib.Core.Option.{Option, some, none}
-use mathlib.Core.Logic.{_⊎_, inl, inr, ⊎-elim}
-use Prim.Native.Nat.{ℕ, zero, suc, _+_, _-_, _*_, _%_, _≤_, _<_}
+use Prim.Native.Nat.{ℕ, zero, suc, _+_, _-_, _%_, _≤_}
 use native.Mathlib.Omega.{arith}
-use lib.Dec.{eqb}
-use lib.ListN.{length}
 use borrow.Author.Tests.{eqb-true}
 use Rattle.frame.specs.declared.Command.{Command}
 use Rattle.frame.specs.declared.Command.the-variants as K
@@ -17,7 +14,7 @@ use Rattle.endpoint.specs.declared.Settings.{Settings}
 use Rattle.endpoint.specs.declared.State.{State}
 use Rattle.endpoint.specs.declared.State.the-variants.{Close, Starting, EstablishPending, Establish, ParamVerify, RefreshPending, Refresh, Terminate}
 use Rattle.endpoint.specs.declared.Timestamps.{Timestamps}
-use Rattle.endpoint.specs.declared.Pending.the-variants.{Nothing, Asked}
+use Rattle.endpoint.specs.declared.Pending.the-variants.{Nothing}
 use Rattle.endpoint.specs.declared.Endpoint.{Endpoint}
 use Rattle.endpoint.specs.Table.{isState, isSetup, requestOf}
 use Rattle.endpoint.specs.Time.{span, minus, isExpired, endedOf, allowanceOf}
@@ -25,15 +22,15 @@ use Rattle.steps.specs.Frames.{setupData, timeOf, baselineOf, requestFields, re
 use Rattle.steps.specs.Calls.{startedOf, restartedOf, requestedOf, refreshSentOf, stoppedOf, isFailSafe, shownOf}
 use Rattle.steps.specs.Deliveries.{ageOf, paddedOf, refreshedOf, confirmedOf}
 use Rattle.steps.specs.Laws.{RequestSent, RefreshSent, StopDone, ReplyTaken, RefreshTaken}
-use Rattle.steps.proofs.Dispatch.{cond-true, cond-false}
-use Rattle.link.specs.Runs.{Clocks, clockLimit, Entry, entryAt}
-use Rattle.link.specs.Fresh.{Ticks, Paired}
-use Rattle.link.proofs.Marks.{Mark, mark, size, at, snoc, Has}
-use Rattle.link.proofs.Invariant.{Terms, Small, MPhase, restM, asked, got, liveM, Master, Slave, Inv, MPh, GoOf, Held, ValueOf, wobble}
+use Rattle.steps.proofs.Dispatch.{cond-false}
+use Rattle.link.specs.Runs.{Clocks, clockLimit, Entry}
+use Rattle.link.specs.Fresh.{Paired}
+use Rattle.link.proofs.Marks.{Mark, mark, at, snoc, Has}
+use Rattle.link.proofs.Invariant.{Terms, Small, MPhase, restM, asked, got, liveM, Master, Inv, MPh, GoOf, Held, ValueOf, wobble}
 use Rattle.link.proofs.Kept.{m-phase, m-got, m-writes, m-goes, m-takes, held-rises}
-use Rattle.link.proofs.Relation.{termsOf, small-of, whoOf, markOf, marks, topOf, above-top, Holds, LiveAtM, AskedAt, GotAt, RelM, RelS, Honest, Linked, setup-timer, refresh-timer, master-time, young-of}
+use Rattle.link.proofs.Relation.{termsOf, small-of, whoOf, markOf, marks, topOf, above-top, Holds, RelM, Honest, Linked, setup-timer, refresh-timer, master-time, young-of}
 use Rattle.link.proofs.Ages.{Young, young-more}
-use Rattle.link.proofs.Entries.{marks-snoc, size-marks, at-marks, honest-snoc, is-eq, FoundAt, in-log, the-mark, marked-code, marked-stamp, marked-body}
+use Rattle.link.proofs.Entries.{marks-snoc, honest-snoc, is-eq, FoundAt, in-log, the-mark, marked-code, marked-stamp, marked-body}
 use Rattle.link.proofs.Shown.{ShownAt, in-refresh, is-taken, shown-is}
 use Rattle.link.proofs.Codes.{go-due, go-baseline, request-not-refresh, setup-not-refresh, refresh-not-setup, pending-setup}
 

@@ -1,13 +1,11 @@
 -- Each call at the slave keeps the relation to the invariant.
 use mathlib.Core.Path.{_≡_, refl, sym, ap, subst, _∙_}
-use mathlib.Core.Bool.{Bool, true, false, _&&_, not, cond, true≢false, false≢true}
+use mathlib.Core.Bool.{Bool, true, false, not, cond, true≢false, false≢true}
 use mathlib.Core.List.{List, [], _∷_, _++_}
 use mathlib.Core.Option.{Option, some, none}
-use Prim.Native.Nat.{ℕ, zero, suc, _+_, _-_, _*_, _%_, _≤_, _<_}
+use Prim.Native.Nat.{ℕ, zero, suc, _+_, _-_, _%_, _≤_, _<_}
 use native.Mathlib.Nat.{mod-eq-of-lt}
 use native.Mathlib.Omega.{arith}
-use lib.Dec.{eqb}
-use lib.ListN.{length}
 use borrow.Author.Tests.{eqb-true}
 use Rattle.frame.specs.declared.Command.{Command}
 use Rattle.frame.specs.declared.Command.the-variants as K
@@ -15,25 +13,25 @@ use Rattle.frame.specs.declared.Fields.{Fields}
 use Rattle.frame.specs.Control.{is, codeOf}
 use Rattle.endpoint.specs.declared.Settings.{Settings}
 use Rattle.endpoint.specs.declared.State.{State}
-use Rattle.endpoint.specs.declared.State.the-variants.{Close, Starting, EstablishPending, Establish, ParamVerify, RefreshPending, Refresh, Terminate}
+use Rattle.endpoint.specs.declared.State.the-variants.{RefreshPending, Refresh}
 use Rattle.endpoint.specs.declared.Timestamps.{Timestamps}
 use Rattle.endpoint.specs.declared.Endpoint.{Endpoint}
 use Rattle.endpoint.specs.declared.Next.{Next}
-use Rattle.endpoint.specs.Table.{isState, isSetup, isNo, nextOf, stateTo}
+use Rattle.endpoint.specs.Table.{isState, isNo, nextOf, stateTo}
 use Rattle.endpoint.specs.Time.{span, minus, isExpired, isAbove, endedOf, allowanceOf, offsetFrom}
-use Rattle.steps.specs.Frames.{setupData, timeOf, refreshFields, replyFields}
+use Rattle.steps.specs.Frames.{timeOf, refreshFields, replyFields}
 use Rattle.steps.specs.Calls.{restartedOf, refreshSentOf, stoppedOf, isFailSafe, shownOf}
 use Rattle.steps.specs.Deliveries.{ageOf, paddedOf, refreshedOf, measuredBy, advancedOf, endedBy}
-use Rattle.steps.specs.Laws.{RefreshSent, StopDone, RequestTaken, RefreshTaken}
-use Rattle.steps.proofs.Dispatch.{cond-true, cond-false}
-use Rattle.link.specs.Runs.{Clocks, clockLimit, Entry, entryAt}
-use Rattle.link.specs.Fresh.{Ticks, Paired}
-use Rattle.link.proofs.Marks.{Mark, mark, size, at, snoc, Has}
+use Rattle.steps.specs.Laws.{RefreshSent, RequestTaken, RefreshTaken}
+use Rattle.steps.proofs.Dispatch.{cond-true}
+use Rattle.link.specs.Runs.{Clocks, clockLimit, Entry}
+use Rattle.link.specs.Fresh.{Paired}
+use Rattle.link.proofs.Marks.{Mark, mark, at, snoc}
 use Rattle.link.proofs.Ages.{Young}
-use Rattle.link.proofs.Invariant.{Terms, Small, SPhase, restS, armed, liveS, Master, Slave, Inv, SPh, Held, ValueOf, LiveS, wobble}
+use Rattle.link.proofs.Invariant.{SPhase, restS, armed, liveS, Slave, Inv, SPh, Held, LiveS, wobble}
 use Rattle.link.proofs.Kept.{s-phase, s-hears, s-replies, s-arms, s-goes, s-sends, s-takes, held-rises}
-use Rattle.link.proofs.Relation.{termsOf, small-of, whoOf, markOf, marks, topOf, above-top, Holds, LiveAtS, ArmedAt, RelM, RelS, Honest, Linked, setup-timer, refresh-timer, slave-time, young-of}
-use Rattle.link.proofs.Entries.{marks-snoc, size-marks, at-marks, honest-snoc, is-eq, FoundAt, in-log, the-mark, marked-code, marked-stamp, marked-body}
+use Rattle.link.proofs.Relation.{termsOf, small-of, markOf, marks, topOf, above-top, Holds, RelS, Honest, Linked, setup-timer, refresh-timer, slave-time, young-of}
+use Rattle.link.proofs.Entries.{marks-snoc, honest-snoc, FoundAt, in-log, the-mark, marked-code, marked-stamp, marked-body}
 use Rattle.link.proofs.Shown.{ShownAt, in-refresh, is-taken, shown-is}
 use Rattle.link.proofs.Codes.{refresh-not-setup, pending-setup, targetOf, leads, go-from}
 

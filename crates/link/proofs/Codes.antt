@@ -1,15 +1,14 @@
 -- Commands by their codes and states by the request due in them.
-use mathlib.Core.Path.{_≡_, refl, sym, ap, _∙_}
-use mathlib.Core.Bool.{Bool, true, false, true≢false, false≢true}
+use mathlib.Core.Path.{_≡_, refl}
+use mathlib.Core.Bool.{true, false, true≢false, false≢true}
 use Prim.Native.Nat.{ℕ, _-_, _%_}
 use native.Mathlib.Omega.{arith}
-use borrow.Author.Tests.{eqb-true}
 use Rattle.frame.specs.declared.Command.{Command}
 use Rattle.frame.specs.declared.Command.the-variants as K
 use Rattle.frame.specs.Control.{codeOf, is}
 use Rattle.endpoint.specs.declared.State.{State}
 use Rattle.endpoint.specs.declared.State.the-variants.{Close, Starting, EstablishPending, Establish, ParamVerify, RefreshPending, Refresh, Terminate}
-use Rattle.endpoint.specs.declared.Next.the-variants.{To, No}
+use Rattle.endpoint.specs.declared.Next.the-variants.{To}
 use Rattle.endpoint.specs.Table.{isState, isSetup, isNo, nextOf, requestOf}
 use Rattle.steps.specs.Frames.{baselineOf}
 

@@ -1,10 +1,9 @@
 -- Any call at the master, and any at the slave, keeps the relation to the invariant; what an end took never falls.
 use mathlib.Core.Path.{_≡_, refl, sym, ap, subst, _∙_}
-use mathlib.Core.Bool.{Bool, true, false, _&&_, _||_, not, cond, Bool·beq, true≢false, false≢true}
-use mathlib.Core.List.{List, [], _∷_, _++_, append-nil}
-use mathlib.Core.Logic.{_⊎_, inl, inr, ⊎-elim}
-use Prim.Native.Nat.{ℕ, zero, suc, _+_, _≤_, _<_}
-use lib.ListN.{length}
+use mathlib.Core.Bool.{Bool, true, false, not, Bool·beq, true≢false}
+use mathlib.Core.List.{List, _++_, append-nil}
+use mathlib.Core.Logic.{_⊎_, ⊎-elim}
+use Prim.Native.Nat.{ℕ, _+_, _≤_}
 use borrow.Author.Tests.{not-false}
 use Rattle.frame.specs.declared.Command.the-variants as K
 use Rattle.frame.specs.declared.Fields.{Fields}
@@ -14,17 +13,17 @@ use Rattle.endpoint.specs.declared.Endpoint.{Endpoint}
 use Rattle.endpoint.specs.declared.Reason.the-variants as R
 use Rattle.endpoint.specs.declared.Answer.{Answer}
 use Rattle.endpoint.specs.declared.Answer.the-variants.{Done, Dropped, Ended}
-use Rattle.endpoint.specs.Answers.{firstOf, isDropped, isEnded}
+use Rattle.endpoint.specs.Answers.{firstOf, isDropped}
 use Rattle.endpoint.specs.Time.{isExpired, isAbove, endedOf}
-use Rattle.steps.specs.Frames.{Written, nothing, written}
+use Rattle.steps.specs.Frames.{nothing}
 use Rattle.steps.specs.Calls.{Outcome, outcome, sendOf, stopOf, stoppedOf}
 use Rattle.steps.specs.Deliveries.{requestFaults, replyFaults, takeRequest, takeReply, deliverOf, endedBy}
 use Rattle.steps.specs.Laws.{RefreshSent, RequestSent}
 use Rattle.steps.proofs.Dispatch.{cond-true, cond-false, deliver-request, deliver-reply}
-use Rattle.steps.proofs.Dones.{send-done, stop-done, refresh-done, request-done, disconnect-done, reply-done}
+use Rattle.steps.proofs.Dones.{send-done, stop-done, refresh-done, request-done, reply-done}
 use Rattle.steps.proofs.Firsts.{not-dropped}
 use Rattle.steps.proofs.Keeps.{bcase}
-use Rattle.link.specs.Runs.{Clocks, clockLimit, Call, start, send, deliver, stop, restart, show, Entry, logged, mayDeliver, tookBy, callOf, actOf}
+use Rattle.link.specs.Runs.{Clocks, clockLimit, Call, send, deliver, stop, Entry, logged, mayDeliver, tookBy, callOf}
 use Rattle.link.specs.Fresh.{Paired}
 use Rattle.link.proofs.Relation.{Linked}
 use Rattle.link.proofs.Entries.{FoundAt}

@@ -2,11 +2,10 @@
 -- to be kept, of the log, the endpoint and the place last taken; the rest says that each of the endpoint's steps
 -- keeps it.
 use mathlib.Core.Path.{_≡_, refl, sym, ap, subst, _∙_}
-use mathlib.Core.Bool.{Bool, true, false, _&&_, not, cond, Bool·beq, true≢false, false≢true}
-use mathlib.Core.List.{List, [], _∷_, _++_, append-nil}
-use Prim.Native.Nat.{ℕ, zero, suc, _+_, _-_, _≤_, _<_}
+use mathlib.Core.Bool.{Bool, true, false, _&&_, not, cond, Bool·beq}
+use mathlib.Core.List.{List, [], _++_, append-nil}
+use Prim.Native.Nat.{ℕ, suc, _+_, _-_, _≤_}
 use native.Mathlib.Omega.{arith}
-use lib.Dec.{leb}
 use lib.ListN.{length}
 use borrow.Author.Tests.{leb-true, not-true}
 use Rattle.frame.proofs.Alike.{and-left}
@@ -21,13 +20,13 @@ use Rattle.endpoint.specs.declared.Answer.{Answer}
 use Rattle.endpoint.specs.declared.Answer.the-variants.{Done, Dropped, Ended}
 use Rattle.endpoint.specs.Answers.{firstOf, isDone, isDropped}
 use Rattle.endpoint.specs.Table.{isState}
-use Rattle.endpoint.specs.Time.{isExpired, endedOf}
-use Rattle.steps.specs.Frames.{Written, nothing, written}
-use Rattle.steps.specs.Calls.{Outcome, outcome, dropped, startedOf, startOf, restartedOf, restartOf, sendFaults, sentOf, sendOf, stopFaults, stopOf}
+use Rattle.endpoint.specs.Time.{endedOf}
+use Rattle.steps.specs.Frames.{nothing, written}
+use Rattle.steps.specs.Calls.{Outcome, outcome, dropped, startedOf, restartedOf, sendFaults, sentOf, sendOf, stopFaults, stopOf}
 use Rattle.steps.specs.Deliveries.{refreshFaults, refreshedOf, paddedOf, takeRefresh, deliverOf}
 use Rattle.steps.proofs.Dispatch.{cond-true, cond-false, deliver-echo, deliver-refresh}
 use Rattle.steps.proofs.Keeps.{bcase}
-use Rattle.link.specs.Runs.{Call, start, send, deliver, stop, restart, show, Entry, logged, lastOf, mayDeliver, tookBy, actOf, callOf}
+use Rattle.link.specs.Runs.{Call, start, send, deliver, stop, restart, show, Entry, logged, lastOf, mayDeliver, tookBy, actOf}
 use Rattle.link.proofs.Entries.{FoundAt, found-at}
 
 -- ---- send and stop are done or dropped

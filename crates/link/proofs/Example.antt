@@ -6,10 +6,9 @@ use Prim.Native.Nat.{ℕ, _+_}
 use lib.Dec.{lit≤}
 use Rattle.frame.specs.declared.Command.{Command}
 use Rattle.frame.specs.declared.Command.the-variants as K
-use Rattle.frame.specs.declared.Fields.{Fields}
 use Rattle.endpoint.specs.declared.Settings.{Settings}
 use Rattle.steps.specs.Frames.{plainFields, setupData}
-use Rattle.link.specs.Runs.{Clocks, Call, start, send, deliver, stop, restart, show, Event, entryAt, sameFields, lastFrom, lastOf, Show, Link}
+use Rattle.link.specs.Runs.{Clocks, Call, start, send, deliver, show, Event, sameFields, lastFrom, lastOf, Link}
 use Rattle.link.specs.Fresh.{Paired, runOf}
 
 settings : Bool → Settings

@@ -1,11 +1,11 @@
 -- The invariant of a master, a slave and the log between them, over plain numbers.
-use mathlib.Core.Path.{_≡_, refl, ap, sym, subst}
-use mathlib.Core.List.{List, [], _∷_, _++_}
+use mathlib.Core.Path.{_≡_}
+use mathlib.Core.List.{List}
 use mathlib.Core.Option.{Option, some, none}
-use Prim.Native.Nat.{ℕ, zero, suc, _+_, _-_, _*_, _^_, _≤_, _<_}
+use Prim.Native.Nat.{ℕ, zero, suc, _+_, _-_, _^_, _≤_, _<_}
 use native.Mathlib.Omega.{arith}
-use Rattle.endpoint.specs.Time.{span, minus}
-use Rattle.link.proofs.Marks.{Mark, size, at, snoc, Each, Has, Pairs}
+use Rattle.endpoint.specs.Time.{span}
+use Rattle.link.proofs.Marks.{Mark, size, at, Each, Has, Pairs}
 use Rattle.link.proofs.Ages.{Near, Pace}
 
 abbrev pub limit : ℕ

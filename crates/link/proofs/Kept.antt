@@ -1,15 +1,15 @@
 -- Each step of a master or a slave keeps the invariant.
-use mathlib.Core.Path.{_≡_, refl, ap, sym, subst}
-use mathlib.Core.List.{List, [], _∷_, _++_}
+use mathlib.Core.Path.{_≡_, refl, ap, subst}
+use mathlib.Core.List.{List}
 use mathlib.Core.Option.{Option, some, none}
-use mathlib.Core.Logic.{_⊎_, inl, inr, ⊎-elim}
-use Prim.Native.Nat.{ℕ, zero, suc, _+_, _-_, _*_, _^_, _%_, _≤_, _<_}
+use mathlib.Core.Logic.{_⊎_, ⊎-elim}
+use Prim.Native.Nat.{ℕ, zero, suc, _+_, _-_, _%_, _≤_, _<_}
 use native.Mathlib.Omega.{arith}
 use native.Mathlib.Decide.{ℕ-discrete, decLt}
 use Rattle.endpoint.specs.Time.{span, minus}
-use Rattle.link.proofs.Marks.{Mark, mark, size, at, snoc, Each, Has, Pairs, still, longer, each-snoc, has-snoc, has-new, pairs-snoc, Where, whereIs, size-snoc, at-new}
-use Rattle.link.proofs.Ages.{Near, Young, le-or-lt, offset-near, estimate, lapse-slave, lapse-master, Pace}
-use Rattle.link.proofs.Invariant.{limit, Terms, Small, MPhase, restM, asked, got, liveM, Master, SPhase, restS, armed, liveS, Slave, GoOf, Stamped, Rising, LogInv, HeldOf, HeldAt, Held, ValueIs, ValueOf, GotOf, MPh, MInv, ArmedOf, Armed, Request, LiveS, At, wobble, creep, pace, pace-hold, elder, SPh, SInv, Inv}
+use Rattle.link.proofs.Marks.{Mark, mark, size, at, snoc, Each, Has, still, longer, each-snoc, has-snoc, has-new, pairs-snoc}
+use Rattle.link.proofs.Ages.{Young, le-or-lt, offset-near, estimate, lapse-slave, lapse-master}
+use Rattle.link.proofs.Invariant.{limit, Terms, Small, MPhase, restM, asked, got, liveM, Master, SPhase, restS, armed, liveS, Slave, GoOf, Stamped, Rising, LogInv, HeldOf, Held, ValueIs, ValueOf, GotOf, MPh, MInv, ArmedOf, Armed, Request, LiveS, At, wobble, pace, pace-hold, elder, SPh, SInv, Inv}
 
 -- time passes
 pub log-later : (c : Terms) (now m : ℕ) (l : List Mark) → now ≤ m → LogInv c now l → LogInv c m l

@@ -1,12 +1,12 @@
 -- Two endpoints and their log against the invariant's master, slave and marks.
-use mathlib.Core.Path.{_≡_, refl, sym, ap, subst, _∙_}
+use mathlib.Core.Path.{_≡_, refl, ap, _∙_}
 use mathlib.Core.Bool.{Bool, true, false, _&&_, _||_, not, cond, true≢false, false≢true}
-use mathlib.Core.List.{List, [], _∷_, _++_, map}
+use mathlib.Core.List.{List, map}
 use mathlib.Core.Option.{Option, some, none}
-use Prim.Native.Nat.{ℕ, zero, suc, _+_, _-_, _*_, _%_, _≤_, _<_}
+use Prim.Native.Nat.{ℕ, suc, _+_, _-_, _%_, _≤_, _<_}
 use native.Mathlib.Omega.{arith}
-use lib.Dec.{eqb, ltb}
-use lib.ListN.{length, getD}
+use lib.Dec.{ltb}
+use lib.ListN.{length}
 use borrow.Author.Tests.{ltb-true, ltb-false, le-leb, lt-leb}
 use Rattle.frame.specs.declared.Command.the-variants as K
 use Rattle.frame.specs.declared.Fields.{Fields}
@@ -22,11 +22,11 @@ use Rattle.endpoint.specs.Table.{isState, isSetup, requestOf}
 use Rattle.endpoint.specs.Time.{span, half, masterTime, isAbove, isAhead, isTooFarAhead, isTooLate, isExpired}
 use Rattle.steps.specs.Frames.{showWidth, timeOf}
 use Rattle.steps.specs.Deliveries.{paddedOf}
-use Rattle.link.specs.Runs.{Clocks, clockLimit, Entry, noEntry, entryAt}
-use Rattle.link.specs.Fresh.{Ticks, Paired}
+use Rattle.link.specs.Runs.{Clocks, clockLimit, Entry, entryAt}
+use Rattle.link.specs.Fresh.{Paired}
 use Rattle.link.proofs.Ages.{Young}
-use Rattle.link.proofs.Marks.{Mark, mark, size, at, snoc}
-use Rattle.link.proofs.Invariant.{Terms, Small, MPhase, restM, asked, got, liveM, Master, SPhase, restS, armed, liveS, Slave, Inv}
+use Rattle.link.proofs.Marks.{Mark, mark}
+use Rattle.link.proofs.Invariant.{Terms, Small, asked, got, liveM, Master, armed, liveS, Slave, Inv}
 
 -- ---- what the invariant's numbers are
 abbrev pub termsOf : Clocks → Settings → Settings → Terms

@@ -1,13 +1,12 @@
 -- The shows of a run and their sends: stable while the log grows, and one more show.
 use mathlib.Core.Path.{_≡_, refl, sym, ap, subst, _∙_}
-use mathlib.Core.Bool.{Bool, true, false, not, cond, true≢false, false≢true}
+use mathlib.Core.Bool.{Bool, true, false, not, cond}
 use mathlib.Core.List.{List, [], _∷_, _++_}
-use Prim.Native.Nat.{ℕ, zero, suc, _+_, _≤_, _<_}
+use Prim.Native.Nat.{ℕ, suc, _+_, _≤_, _<_}
 use native.Mathlib.Numerals.{add-one}
 use native.Mathlib.Omega.{arith}
 use native.Mathlib.Decide.{decLt}
-use lib.Dec.{eqb}
-use lib.ListN.{length, getD, length-append, List·getD-append}
+use lib.ListN.{length, length-append, List·getD-append}
 use lib.Seq.{getD-append-seam}
 use borrow.Author.Tests.{eq-eqb}
 use Rattle.frame.specs.declared.Command.the-variants as K
@@ -16,8 +15,8 @@ use Rattle.frame.specs.Control.{is, codeOf}
 use Rattle.endpoint.specs.declared.Settings.{Settings}
 use Rattle.link.specs.Runs.{Entry, noEntry, entryAt, Show, noShow, showAt}
 use Rattle.link.specs.Fresh.{boundOf, ItsSend}
-use Rattle.link.proofs.Marks.{Mark, size, at}
-use Rattle.link.proofs.Relation.{whoOf, markOf, marks, Honest}
+use Rattle.link.proofs.Marks.{Mark, at}
+use Rattle.link.proofs.Relation.{whoOf, marks, Honest}
 use Rattle.link.proofs.Entries.{size-marks, at-marks}
 use Rattle.link.proofs.Shown.{ShownAt}
 

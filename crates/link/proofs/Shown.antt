@@ -1,17 +1,15 @@
 -- What is shown: the body of the S-Refresh last taken.
-use mathlib.Core.Path.{_≡_, refl, sym, ap, ap₂, subst, _∙_}
-use mathlib.Core.Bool.{Bool, true, false, _&&_, not, cond, true≢false, false≢true}
-use mathlib.Core.List.{List, [], _++_}
-use mathlib.Core.Option.{Option, some, none}
+use mathlib.Core.Path.{_≡_, ap, _∙_}
+use mathlib.Core.Bool.{Bool, true, false, _&&_}
+use mathlib.Core.List.{List, _++_}
+use mathlib.Core.Option.{some}
 use Prim.Native.Nat.{ℕ, suc, _+_, _≤_, _<_}
 use native.Mathlib.Omega.{arith}
 use lib.ListN.{length, take, drop, replicate}
 use lib.Seq.{take-all, take-at}
 use borrow.Author.Tests.{not-false}
 use Rattle.frame.proofs.Alike.{and-left, and-right}
-use Rattle.endpoint.specs.declared.Settings.{Settings}
 use Rattle.endpoint.specs.declared.State.the-variants.{Refresh}
-use Rattle.endpoint.specs.declared.Value.{Value}
 use Rattle.endpoint.specs.declared.Endpoint.{Endpoint}
 use Rattle.endpoint.specs.Table.{isState}
 use Rattle.steps.specs.Frames.{showWidth}

@@ -1,5 +1,5 @@
 -- The seven words of one connection (document 01, "The settings list").
-use mathlib.Core.Bool.{Bool, true, false, _&&_, not}
+use mathlib.Core.Bool.{Bool, _&&_, not}
 use Prim.Native.Nat.{ℕ, _+_, _*_, _/_, _%_}
 use lib.Dec.{eqb, leb, ltb}
 use Rattle.endpoint.specs.declared.Settings.{Settings}

@@ -1,6 +1,6 @@
 -- What an endpoint writes can be written, and carries its CID and its role's Application bit.
-use mathlib.Core.Path.{_≡_, refl, sym, subst, _∙_}
-use mathlib.Core.Bool.{Bool, true, false, _&&_, _||_, not, cond, Bool·beq}
+use mathlib.Core.Path.{_≡_, refl, sym, subst}
+use mathlib.Core.Bool.{true, false, _&&_, _||_, not, Bool·beq}
 use mathlib.Core.List.{List}
 use Prim.Native.Nat.{ℕ}
 use lib.ListN.{length}
@@ -14,8 +14,8 @@ use Rattle.endpoint.specs.declared.State.the-variants.{Refresh}
 use Rattle.endpoint.specs.declared.Endpoint.{Endpoint}
 use Rattle.endpoint.specs.Answers.{firstOf, isDropped, isEnded}
 use Rattle.endpoint.specs.Table.{isState, isSetup}
-use Rattle.steps.specs.Frames.{Written, nothing, written}
-use Rattle.steps.specs.Calls.{Outcome, isNothing, mayRequest, sendFaults, sendOf, stopFaults, disconnectOf, stopOf}
+use Rattle.steps.specs.Frames.{written}
+use Rattle.steps.specs.Calls.{Outcome, isNothing, mayRequest, sendFaults, sendOf, stopFaults, stopOf}
 use Rattle.steps.specs.Deliveries.{requestFaults, repliedOf, deliverOf}
 use Rattle.steps.specs.Laws.{Carries}
 use Rattle.steps.proofs.Dispatch.{cond-true, cond-false, deliver-echo, deliver-refresh, deliver-request, deliver-reply}

@@ -1,5 +1,5 @@
 -- Which of its parts a delivery comes to.
-use mathlib.Core.Path.{_≡_, refl, _∙_}
+use mathlib.Core.Path.{_≡_, _∙_}
 use mathlib.Core.Bool.{Bool, true, false, cond, Bool·beq}
 use mathlib.Core.List.{List}
 use Prim.Native.Nat.{ℕ}
@@ -9,7 +9,7 @@ use Rattle.frame.specs.Control.{is}
 use Rattle.endpoint.specs.declared.Endpoint.{Endpoint}
 use Rattle.endpoint.specs.declared.Reason.the-variants as R
 use Rattle.endpoint.specs.declared.Answer.the-variants.{Dropped}
-use Rattle.steps.specs.Calls.{Outcome, dropped}
+use Rattle.steps.specs.Calls.{dropped}
 use Rattle.steps.specs.Deliveries.{takeRefresh, takeRequest, takeReply, deliverOf}
 
 pub cond-true : {A : Type 0} (b : Bool) (x y : A) → b ≡ true → cond b x y ≡ x

@@ -1,6 +1,6 @@
 -- What done tells of each call, and what dropped leaves.
 use mathlib.Core.Path.{_≡_, refl, sym, ap, _∙_}
-use mathlib.Core.Bool.{Bool, true, false, _&&_, _||_, not, cond, Bool·beq, true≢false, false≢true}
+use mathlib.Core.Bool.{Bool, true, false, _&&_, not, Bool·beq, true≢false, false≢true}
 use mathlib.Core.List.{List}
 use mathlib.Core.Logic.{_⊎_, inl, inr}
 use Prim.Native.Nat.{ℕ}
@@ -24,8 +24,8 @@ use Rattle.endpoint.specs.declared.Answer.the-variants.{Done, Dropped, Ended}
 use Rattle.endpoint.specs.Answers.{firstOf, isDropped}
 use Rattle.endpoint.specs.Table.{isState, isSetup, requestOf}
 use Rattle.endpoint.specs.Time.{isAbove}
-use Rattle.steps.specs.Frames.{setupData, sendWidth, showWidth, timeOf}
-use Rattle.steps.specs.Calls.{Outcome, dropped, isNothing, mayRequest, startOf, restartOf, sendFaults, sendOf, stopFaults, stopOf}
+use Rattle.steps.specs.Frames.{setupData, showWidth, timeOf}
+use Rattle.steps.specs.Calls.{Outcome, dropped, isNothing, startOf, restartOf, sendFaults, sendOf, stopFaults, stopOf}
 use Rattle.steps.specs.Deliveries.{isAsked, answersTo, refreshFaults, requestFaults, replyFaults, takeRefresh, takeRequest, takeReply, deliverOf}
 use Rattle.steps.specs.Laws.{StartDone, RestartDone, RefreshSent, RequestSent, StopDone, RefreshTaken, RequestTaken, DisconnectTaken, ReplyTaken}
 use Rattle.steps.proofs.Carried.{may-request, master-requests}

@@ -1,8 +1,7 @@
 -- The ways a call with a lent output ends: too little room, nothing written, a frame written.
-use mathlib.Core.Path.{_≡_, refl, sym, ap, _∙_}
+use mathlib.Core.Path.{_≡_}
 use mathlib.Core.List.{List}
 use Prim.Native.Nat.{ℕ, _≤_, _<_}
-use lib.Dec.{ltb}
 use lib.ListN.{length}
 use borrow.Author.Tests.{lt-ltb, le-ltb}
 use Rattle.frame.specs.declared.Fields.{Fields}
@@ -12,7 +11,7 @@ use Rattle.endpoint.specs.declared.Reason.the-variants as R
 use Rattle.endpoint.specs.declared.Answer.{Answer}
 use Rattle.endpoint.specs.declared.Answer.the-variants.{Dropped}
 use Rattle.steps.specs.declared.Stepped.{Stepped}
-use Rattle.steps.specs.Frames.{Written, nothing, written, bytesOf}
+use Rattle.steps.specs.Frames.{nothing, written, bytesOf}
 use Rattle.steps.specs.Calls.{Outcome, outcome}
 use Rattle.steps.specs.Says.{withRoom, steppedOf, StepSays, WholeSays}
 

@@ -1,10 +1,9 @@
 -- What a show writes: too little room, or the value's width of bytes.
-use mathlib.Core.Path.{_≡_, refl, sym, ap, ap₂, _∙_}
-use mathlib.Core.Bool.{Bool, true, cond, _&&_}
-use mathlib.Core.List.{List, [], _++_}
-use Prim.Native.Nat.{ℕ, _%_, _≤_, _<_}
+use mathlib.Core.Path.{_≡_, sym, ap, ap₂, _∙_}
+use mathlib.Core.List.{List, _++_}
+use Prim.Native.Nat.{ℕ, _≤_, _<_}
 use native.Mathlib.Omega.{arith}
-use lib.Dec.{ltb, leb}
+use lib.Dec.{leb}
 use lib.ListN.{length, take, drop}
 use lib.Seq.{length-take-le}
 use borrow.Author.Tests.{lt-ltb, le-ltb, leb-true}
@@ -15,7 +14,7 @@ use Rattle.endpoint.specs.declared.Endpoint.{Endpoint}
 use Rattle.steps.specs.declared.Shown.{Shown}
 use Rattle.steps.specs.Frames.{showWidth}
 use Rattle.steps.specs.Calls.{isFailSafe, heldOr, shownOf}
-use Rattle.steps.specs.Says.{shownTo, ShowSays}
+use Rattle.steps.specs.Says.{ShowSays}
 use Rattle.steps.proofs.Whole.{show-width-length}
 
 pub show-width-le : (s : Settings) → showWidth s ≤ 100

@@ -1,7 +1,7 @@
 -- What an endpoint writes has its numbers within their types.
-use mathlib.Core.Path.{_≡_, refl, sym, subst}
-use mathlib.Core.Bool.{Bool, true, false, _||_, not, cond, Bool·beq}
-use mathlib.Core.List.{List, [], _∷_, _++_}
+use mathlib.Core.Path.{sym, subst}
+use mathlib.Core.Bool.{Bool, true, false, _||_, cond, Bool·beq}
+use mathlib.Core.List.{List, [], _++_}
 use Prim.Native.Nat.{ℕ, _+_, _*_, _^_, _-_, _/_, _%_, _<_}
 use native.Mathlib.Omega.{arith}
 use lib.Dec.{lit<}
@@ -15,9 +15,9 @@ use Rattle.frame.specs.RoundTrip.{Bytes, none, more, Typed}
 use Rattle.endpoint.specs.declared.Settings.{Settings}
 use Rattle.endpoint.specs.declared.State.the-variants.{Refresh}
 use Rattle.endpoint.specs.declared.Endpoint.{Endpoint}
-use Rattle.endpoint.specs.Answers.{firstOf, isDropped, isEnded}
+use Rattle.endpoint.specs.Answers.{firstOf, isDropped}
 use Rattle.endpoint.specs.Table.{isState, requestOf}
-use Rattle.steps.specs.Frames.{Written, nothing, written, setupData, plainFields, baselineOf, requestFields}
+use Rattle.steps.specs.Frames.{setupData, plainFields, baselineOf}
 use Rattle.steps.specs.Calls.{Outcome, sendFaults, sendOf, stopFaults, stopOf}
 use Rattle.steps.specs.Deliveries.{requestFaults, repliedOf, deliverOf}
 use Rattle.steps.specs.Laws.{SettingsFit, IsTyped}

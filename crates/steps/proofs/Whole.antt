@@ -1,18 +1,18 @@
 -- A frame that can be written is written whole to an output of 248 bytes or more; and every frame that an endpoint
 -- writes can be.
-use mathlib.Core.Path.{_≡_, refl, sym, ap, _∙_}
-use mathlib.Core.Bool.{Bool, true, false, _&&_, _||_, not, cond, or-true}
-use mathlib.Core.List.{List, [], _∷_}
+use mathlib.Core.Path.{_≡_, refl}
+use mathlib.Core.Bool.{Bool, true, false, _&&_, not, cond, or-true}
+use mathlib.Core.List.{List}
 use Prim.Native.Nat.{ℕ, _+_, _-_, _*_, _%_, _^_, _≤_, _<_}
 use native.Mathlib.Omega.{arith}
-use lib.Dec.{eqb, leb, ltb}
+use lib.Dec.{eqb, leb}
 use lib.ListN.{length}
 use borrow.Author.Tests.{le-leb, leb-true, lt-ltb, eq-eqb}
 use Rattle.frame.specs.declared.Command.{Command}
 use Rattle.frame.specs.declared.Command.the-variants as K
 use Rattle.frame.specs.declared.Fields.{Fields}
 use Rattle.frame.specs.Control.{is, hasForm}
-use Rattle.frame.specs.Writing.{frameBytes, isBodyLength, isWritable, writtenOf, WriteSays}
+use Rattle.frame.specs.Writing.{isBodyLength, isWritable, writtenOf, WriteSays}
 use Rattle.frame.proofs.Alike.{and-left, and-right, both}
 use Rattle.frame.proofs.Lengths.{can-be-written}
 use Rattle.endpoint.specs.declared.Settings.{Settings}

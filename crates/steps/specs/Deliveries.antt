@@ -1,6 +1,6 @@
 -- What a frame of this connection does when it is delivered: fields and body as the reader gives them.
 use mathlib.Core.Bool.{Bool, true, false, _&&_, _||_, not, cond, Bool·beq}
-use mathlib.Core.List.{List, [], _++_}
+use mathlib.Core.List.{List, _++_}
 use Prim.Native.Nat.{ℕ}
 use lib.Dec.{eqb}
 use lib.ListN.{length, take, drop, replicate}
@@ -9,7 +9,6 @@ use Rattle.frame.specs.declared.Command.the-variants as K
 use Rattle.frame.specs.declared.Fields.{Fields}
 use Rattle.frame.specs.Control.{is}
 use Rattle.frame.specs.Reading.{same}
-use Rattle.endpoint.specs.declared.State.{State}
 use Rattle.endpoint.specs.declared.State.the-variants.{Refresh}
 use Rattle.endpoint.specs.declared.Timestamp.the-variants.{At}
 use Rattle.endpoint.specs.declared.Timestamps.{Timestamps}

@@ -1,6 +1,6 @@
 -- What holds of the calls, for whoever uses them and does not look at their text.
 use mathlib.Core.Path.{_≡_}
-use mathlib.Core.Bool.{Bool, true, false}
+use mathlib.Core.Bool.{true, false}
 use mathlib.Core.List.{List}
 use mathlib.Core.Logic.{_⊎_}
 use Prim.Native.Nat.{ℕ, _+_, _*_, _^_, _<_}
@@ -19,7 +19,7 @@ use Rattle.endpoint.specs.declared.Answer.the-variants.{Done, Dropped}
 use Rattle.endpoint.specs.Table.{isState, isSetup, isNo, nextOf, requestOf}
 use Rattle.endpoint.specs.Time.{isAbove, isTooFarAhead, isTooLate, allowanceOf}
 use Rattle.steps.specs.Frames.{Written, nothing, written, setupData, sendWidth, showWidth, timeOf, requestFields, refreshFields, replyFields}
-use Rattle.steps.specs.Calls.{Outcome, outcome, dropped, startedOf, restartedOf, requestedOf, refreshSentOf, stoppedOf, disconnectOf, startOf, restartOf, sendOf, stopOf}
+use Rattle.steps.specs.Calls.{outcome, dropped, startedOf, restartedOf, requestedOf, refreshSentOf, stoppedOf, disconnectOf, startOf, restartOf, sendOf, stopOf}
 use Rattle.steps.specs.Deliveries.{paddedOf, refreshedOf, advancedOf, endedBy, confirmedOf, takeRefresh, takeRequest, takeReply, deliverOf, ageOf}
 
 -- what is written can be written, and carries the endpoint's CID and its role's Application bit

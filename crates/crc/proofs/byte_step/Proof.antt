@@ -1,6 +1,6 @@
 -- `crc::byte_step` meets its contract: one entry of the table stands for eight bit steps.
-use mathlib.Core.Path.{_≡_, sym, ap, _∙_}
-use Prim.Native.Nat.{ℕ, _/_, _%_}
+use mathlib.Core.Path.{sym, ap, _∙_}
+use Prim.Native.Nat.{_/_}
 use borrow.Author.Needs.{needs}
 use lib.Bits.{bitXor}
 use Rattle.crc.specs.Crc.{byteStep}

@@ -1,9 +1,9 @@
 -- `settings::is_new` meets its contract: so far none of the first n is the same.
-use Prim.Native.Nat.{ℕ, _≤_, _-_}
+use Prim.Native.Nat.{_≤_, _-_}
 use borrow.Author.Needs.{needs}
 use lib.Dec.{eqb}
-use mathlib.Core.Bool.{Bool, _&&_, not}
-use mathlib.Core.Path.{_≡_, refl, sym, ap, ap₂, _∙_}
+use mathlib.Core.Bool.{_&&_, not}
+use mathlib.Core.Path.{_≡_, refl, sym, ap, _∙_}
 use native.Mathlib.Numerals.{add-one}
 use native.Mathlib.Omega.{arith}
 use Rattle.settings.specs.Lists.{connectionAt, isNewAt}

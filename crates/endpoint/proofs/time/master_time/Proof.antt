@@ -1,6 +1,5 @@
 -- `endpoint::time::master_time` meets its contract: a sum modulo 2^64, modulo 2^48.
 use native.Mathlib.Omega.{arith}
-use borrow.Author.Needs.{needs}
 use Rattle.endpoint.proofs.time.master_time.Statement.{statement}
 use Rattle.endpoint.proofs.time.master_time.Tie as tie
 

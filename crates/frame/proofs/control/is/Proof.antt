@@ -1,5 +1,4 @@
 -- `frame::control::is` meets its contract.
-use borrow.Author.Needs.{needs}
 use Rattle.frame.proofs.control.is.Statement.{statement}
 use Rattle.frame.proofs.control.is.Tie as tie
 

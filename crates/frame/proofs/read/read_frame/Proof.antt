@@ -1,5 +1,5 @@
 -- `frame::read::read_frame` meets its contract: the two halves of a slice that has a frame's length.
-use mathlib.Core.Path.{_≡_, sym, _∙_}
+use mathlib.Core.Path.{sym, _∙_}
 use Prim.Native.Nat.{_/_}
 use native.Mathlib.Omega.{arith}
 use borrow.Author.Needs.{needs}

@@ -1,10 +1,10 @@
 -- `steps::deliver::deliver` meets its contract: too little room, one's own frame, and the three kinds of frame.
 use borrow.Author.Needs.{needs}
-use mathlib.Core.Path.{_≡_, refl, sym, subst, _∙_}
+use mathlib.Core.Path.{sym, subst, _∙_}
 use Rattle.steps.proofs.Dispatch.{deliver-echo, deliver-refresh, deliver-request, deliver-reply}
 use Rattle.steps.proofs.Outcomes.{short, quiet, roomy}
 use Rattle.steps.specs.Calls.{Outcome}
-use Rattle.steps.specs.Deliveries.{takeRefresh, takeReply, takeRequest, deliverOf}
+use Rattle.steps.specs.Deliveries.{takeRefresh, takeReply, deliverOf}
 use Rattle.steps.specs.Says.{StepSays}
 use Rattle.endpoint.specs.declared.Answer.the-variants.{Dropped}
 use Rattle.endpoint.specs.declared.Reason.the-variants as R

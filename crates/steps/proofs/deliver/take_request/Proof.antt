@@ -2,14 +2,13 @@
 use borrow.Author.Needs.{needs}
 use lib.ListN.{length}
 use mathlib.Core.Bool.{true}
-use mathlib.Core.Path.{_≡_, sym, ap, _∙_}
+use mathlib.Core.Path.{_≡_, sym, _∙_}
 use Rattle.steps.proofs.Firsts.{request-width, neither}
 use Rattle.steps.proofs.Outcomes.{quiet-step, loud-step}
 use Rattle.steps.proofs.Whole.{setup-length, reply-writable}
-use Rattle.endpoint.specs.Answers.{isEnded}
 use Rattle.steps.specs.Calls.{outcome}
 use Rattle.steps.specs.Deliveries.{takeRequest}
-use Rattle.steps.specs.Frames.{nothing, written, replyFields}
+use Rattle.steps.specs.Frames.{nothing, written}
 use Rattle.frame.specs.Writing.{isBodyLength}
 use Rattle.steps.proofs.deliver.take_request.Statement.{statement}
 use Rattle.steps.proofs.deliver.take_request.Tie as tie

@@ -1,8 +1,7 @@
 -- `steps::send::send` meets its contract: too little room, refused, S-Refresh, a request.
 use borrow.Author.Needs.{needs}
 use lib.ListN.{length}
-use mathlib.Core.Bool.{true}
-use mathlib.Core.Path.{_≡_, sym, ap, _∙_}
+use mathlib.Core.Path.{_≡_, sym, _∙_}
 use Rattle.steps.proofs.Firsts.{sent-width}
 use Rattle.steps.proofs.Outcomes.{short, quiet, loud}
 use Rattle.steps.proofs.Whole.{request-writable, refresh-writable, send-width-length}
@@ -10,7 +9,6 @@ use Rattle.steps.specs.Calls.{outcome, sendOf, requestedOf, refreshSentO
 use Rattle.steps.specs.Frames.{nothing, written, setupData, sendWidth, requestFields, refreshFields}
 use Rattle.endpoint.specs.Table.{requestOf}
 use Rattle.endpoint.specs.declared.Answer.the-variants.{Done}
-use Rattle.frame.specs.Writing.{isBodyLength}
 use Rattle.steps.proofs.send.send.Statement.{statement}
 use Rattle.steps.proofs.send.send.Tie as tie
 

@@ -1,6 +1,6 @@
 -- `steps::turns::stop` meets its contract: too little room, refused, a slave's, a master's.
 use borrow.Author.Needs.{needs}
-use mathlib.Core.Path.{_≡_, _∙_}
+use mathlib.Core.Path.{_≡_}
 use Rattle.steps.proofs.Outcomes.{short, quiet, loud}
 use Rattle.steps.proofs.Whole.{disconnect-writable}
 use Rattle.steps.specs.Calls.{outcome, stopOf, stoppedOf}
