@@ -26,7 +26,8 @@ use Rattle.device.specs.declared.Entry.the-variants.{At}
 use Rattle.device.specs.declared.Called.{Called}
 use Rattle.device.specs.Tables.{endpointAt}
 use Rattle.device.specs.Clock.{isReading, clockStep}
-use Rattle.device.specs.Calls.{Result, admit, refusedOf, unlessRefused, actedOf, beforeEntry, onEntry, isShort, beforeShow, shownIn, showIn, calledOf, stepCalled, CallSays}
+use Rattle.device.specs.Calls.{Result, admit, refusedOf, unlessRefused, actedOf, beforeEntry, onEntry, isShort}
+use Rattle.device.specs.Calls.{beforeShow, shownIn, showIn, calledOf, stepCalled, CallSays}
 
 -- a call that goes on was lent enough room
 pub roomy : (last : Timestamp) (t : ℕ) (short : Bool) (a : Answer) → isDone (admit last t short a) ≡ true → short ≡ false

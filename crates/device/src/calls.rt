@@ -1,7 +1,8 @@
 // The calls that name an entry: start, send, stop, restart, show.
 ghost use mathlib.Core.Path.{_≡_};
 ghost use lib.ListN.{length};
-ghost use Rattle.device.specs.Calls.{admit, admitEntry, timely, refusedEntry, refusedOf, startIn, sendIn, stopIn, restartIn, showIn, calledOf, stepCalled, CallSays};
+ghost use Rattle.device.specs.Calls.{admit, admitEntry, timely, refusedEntry, refusedOf, startIn, sendIn, stopIn};
+ghost use Rattle.device.specs.Calls.{restartIn, showIn, calledOf, stepCalled, CallSays};
 use super::Called;
 use super::Device;
 use super::Entry;

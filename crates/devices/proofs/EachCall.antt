@@ -39,7 +39,9 @@ use Rattle.device.specs.Clock.{isReading}
 use Rattle.device.specs.Calls.{Result, admit, refusedOf, isShort, beforeShow, shownIn, reasonOf, byEntry, byReading}
 use Rattle.device.proofs.OnEntry.{start-quiet, restart-quiet}
 use Rattle.link.specs.Runs as L
-use Rattle.devices.specs.Runs.{Call, start, send, deliver, stop, restart, show, callIn, isOf, isRefreshIn, isFrameOf, isRefreshOf, Sent, logged, lastOf, mayDeliver, handsBytes, isAt, showsValue, shownBy}
+use Rattle.devices.specs.Runs.{Call, start, send, deliver, stop, restart, show, callIn, isOf, isRefreshIn}
+use Rattle.devices.specs.Runs.{isFrameOf, isRefreshOf, Sent, logged, lastOf, mayDeliver, handsBytes, isAt}
+use Rattle.devices.specs.Runs.{showsValue, shownBy}
 use Rattle.devices.proofs.Tables.{Like, like-tick, like-at, ticked-at, at, entry-like, entry-found}
 use Rattle.devices.proofs.Loaded.{Table}
 use Rattle.devices.proofs.Logs.{bytes-of, toLog, AllGood, no-more, last-of}

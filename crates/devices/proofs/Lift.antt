@@ -25,11 +25,13 @@ use Rattle.device.specs.Loading.{loadedOf}
 use Rattle.link.specs.Runs as L
 use Rattle.link.specs.Fresh as F
 use Rattle.link.proofs.AgeProof.{age-theorem}
-use Rattle.devices.specs.Runs.{Call, Event, callIn, Sent, sentAt, frameBy, logged, mayDeliver, handsBytes, tookBy, shownBy, Run, afterCall, afterEvent, afterAll, begun}
+use Rattle.devices.specs.Runs.{Call, Event, callIn, Sent, sentAt, frameBy, logged, mayDeliver, handsBytes, tookBy}
+use Rattle.devices.specs.Runs.{shownBy, Run, afterCall, afterEvent, afterAll, begun}
 use Rattle.devices.specs.Demand.{Holds, settingsIn, ItsSend, Fresh, runOf, Demand, Silence}
 use Rattle.devices.proofs.Tables.{Like, like-trans}
 use Rattle.devices.proofs.Loaded.{Table, loaded}
-use Rattle.devices.proofs.Logs.{refresh-of, toSent, toLog, toLog-append, toLog-length, sent-at, AllGood, no-more, good-append, good-at}
+use Rattle.devices.proofs.Logs.{refresh-of, toSent, toLog, toLog-append, toLog-length, sent-at, AllGood, no-more}
+use Rattle.devices.proofs.Logs.{good-append, good-at}
 use Rattle.devices.proofs.EachCall.{matches}
 
 reading-limit : (last : Timestamp) (t : ℕ) → isReading last t ≡ true → leb t lastReading ≡ true

@@ -20,7 +20,8 @@ use Rattle.endpoint.specs.Answers.{isDone}
 use Rattle.steps.specs.Calls.{freshOf}
 use Rattle.steps.specs.Laws.{SettingsFit}
 use Rattle.settings.specs.Words.{restOf, isTicks, hasKinds}
-use Rattle.settings.specs.Lists.{wordOf, connectionAt, settingsAt, isConnectionAt, isNewAt, areConnections, countOf, isList}
+use Rattle.settings.specs.Lists.{wordOf, connectionAt, settingsAt, isConnectionAt, isNewAt, areConnections, countOf}
+use Rattle.settings.specs.Lists.{isList}
 use Rattle.settings.proofs.Tests.{count-le}
 use Rattle.device.specs.declared.Device.{Device}
 use Rattle.device.specs.declared.Entry.the-variants.{At}

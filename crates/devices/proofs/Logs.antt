@@ -17,7 +17,8 @@ use Rattle.frame.proofs.Alike.{and-left, and-right, both, same-refl, same-eq}
 use Rattle.frame.proofs.ReadBack.{round-trip}
 use Rattle.link.specs.Runs as L
 use Rattle.link.proofs.Entries.{fields-eq}
-use Rattle.devices.specs.Runs.{isOf, isRefreshIn, isFrameOf, isRefreshOf, areBytes, Sent, sentAt, lastFrom, lastOf}
+use Rattle.devices.specs.Runs.{isOf, isRefreshIn, isFrameOf, isRefreshOf, areBytes, Sent, sentAt, lastFrom}
+use Rattle.devices.specs.Runs.{lastOf}
 
 pub bytes-of : (s : List ℕ) → areBytes s ≡ true → Bytes s
 unfolding areBytes

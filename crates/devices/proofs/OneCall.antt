@@ -27,8 +27,10 @@ use Rattle.device.specs.Tables.{isEntry, endpointAt}
 use Rattle.device.specs.Clock.{isReading, clockStep, afterClock}
 use Rattle.device.specs.Calls.{Result, refusedOf, actedOf, beforeEntry, onEntry}
 use Rattle.link.specs.Runs as L
-use Rattle.devices.specs.Runs.{Call, callIn, isFrameOf, Sent, frameBy, lentTo, logged, tookBy, showsValue, shownBy}
-use Rattle.devices.proofs.Tables.{Like, like-trans, like-tick, like-at, like-length, ticked-at, placed-here, placed-there, like-placed}
+use Rattle.devices.specs.Runs.{Call, callIn, isFrameOf, Sent, frameBy, lentTo, logged, tookBy, showsValue}
+use Rattle.devices.specs.Runs.{shownBy}
+use Rattle.devices.proofs.Tables.{Like, like-trans, like-tick, like-at, like-length, ticked-at, placed-here}
+use Rattle.devices.proofs.Tables.{placed-there, like-placed}
 use Rattle.devices.proofs.Loaded.{Table}
 use Rattle.devices.proofs.Logs.{frame-of, toSent, toLog, AllGood, no-more, and-more}
 use Rattle.devices.proofs.Idle.{Quiet, starts, restarts, idle-at, call-timely}

@@ -6,7 +6,8 @@ use lib.ListN.{getD}
 use Rattle.frame.specs.declared.Command.{Command}
 use Rattle.frame.specs.declared.Command.the-variants as K
 use Rattle.endpoint.specs.declared.State.{State}
-use Rattle.endpoint.specs.declared.State.the-variants.{Close, Starting, EstablishPending, Establish, ParamVerify, RefreshPending, Refresh, Terminate}
+use Rattle.endpoint.specs.declared.State.the-variants.{Close, Starting, EstablishPending, Establish, ParamVerify}
+use Rattle.endpoint.specs.declared.State.the-variants.{RefreshPending, Refresh, Terminate}
 use Rattle.endpoint.specs.declared.Next.{Next}
 use Rattle.endpoint.specs.Table.{stateNumber, columnOf, nextOf}
 

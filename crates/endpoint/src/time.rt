@@ -1,7 +1,8 @@
 // Clocks, timestamps and ages, and the clock step.
 ghost use mathlib.Core.Path.{_≡_};
 ghost use Prim.Native.Nat.{_-_, _+_, _%_};
-ghost use Rattle.endpoint.specs.Time.{span, minus, masterTime, isAbove, isTooFarAhead, allowanceOf, isTooLate, offsetFrom, isOver, isExpired, noValue, endedOf, afterTick};
+ghost use Rattle.endpoint.specs.Time.{span, minus, masterTime, isAbove, isTooFarAhead, allowanceOf, isTooLate};
+ghost use Rattle.endpoint.specs.Time.{offsetFrom, isOver, isExpired, noValue, endedOf, afterTick};
 use super::Endpoint;
 use super::Settings;
 use super::State;

@@ -19,7 +19,8 @@ use Rattle.frame.specs.declared.Reading.the-variants.{Frame, Refused}
 use Rattle.frame.specs.Words.{wordAt, wordBytes}
 use Rattle.frame.specs.Control.{bit, sessionOf, controlOf, hasForm}
 use Rattle.frame.specs.Reading.{isFrameLength, same, hasCheckWord, fieldsIn, isFormed, readingOfCopies, readingOf}
-use Rattle.frame.specs.Writing.{timeOf, carryOf, headBytes, withCheckWord, twice, subBytes, frameBytes, isWritable}
+use Rattle.frame.specs.Writing.{timeOf, carryOf, headBytes, withCheckWord, twice, subBytes, frameBytes}
+use Rattle.frame.specs.Writing.{isWritable}
 use Rattle.frame.specs.RoundTrip.{SessionFits, Writable}
 use Rattle.frame.proofs.Alike.{and-left, and-right, both, same-eq}
 use Rattle.frame.proofs.Lengths.{frame-length, slice-from}

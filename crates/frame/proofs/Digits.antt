@@ -8,7 +8,8 @@ use lib.Arith.{digits-mod}
 use lib.Dec.{lit≤, lit<}
 use borrow.Author.Tests.{eq-eqb, ne-eqb}
 use Rattle.frame.specs.declared.Command.{Command}
-use Rattle.frame.specs.declared.Command.the-variants.{Connect, ConfirmNetwork, VerifyStation, Disconnect, RefreshReady, RefreshGo, Refresh}
+use Rattle.frame.specs.declared.Command.the-variants.{Connect, ConfirmNetwork, VerifyStation, Disconnect}
+use Rattle.frame.specs.declared.Command.the-variants.{RefreshReady, RefreshGo, Refresh}
 use Rattle.frame.specs.declared.Session.{Session}
 use Rattle.frame.specs.declared.Session.the-variants.{Absent, Number}
 use Rattle.frame.specs.declared.Fields.{Fields}

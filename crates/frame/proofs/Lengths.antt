@@ -14,7 +14,8 @@ use Rattle.frame.specs.declared.Fields.{Fields}
 use Rattle.frame.specs.Words.{wordBytes}
 use Rattle.frame.specs.Control.{hasForm, controlOf}
 use Rattle.frame.specs.Reading.{isFrameLength}
-use Rattle.frame.specs.Writing.{timeOf, carryOf, headBytes, withCheckWord, twice, subBytes, frameBytes, isWritable}
+use Rattle.frame.specs.Writing.{timeOf, carryOf, headBytes, withCheckWord, twice, subBytes, frameBytes}
+use Rattle.frame.specs.Writing.{isWritable}
 use Rattle.frame.proofs.Alike.{and-left, and-right}
 
 pub record FrameLength (n : ℕ) : Type 0 where

@@ -13,7 +13,8 @@ use Rattle.frame.specs.declared.Fault.the-variants.{Length, Copies, Chec
 use Rattle.frame.specs.declared.Reading.the-variants.{Frame, Refused}
 use Rattle.frame.specs.Words.{wordOf, wordAt, wordBytes}
 use Rattle.frame.specs.Control.{controlOf}
-use Rattle.frame.specs.Reading.{isFrameLength, hasCheckWord, fieldsOf, fieldsIn, isFormed, readingOfCopies, readingOf}
+use Rattle.frame.specs.Reading.{isFrameLength, hasCheckWord, fieldsOf, fieldsIn, isFormed, readingOfCopies}
+use Rattle.frame.specs.Reading.{readingOf}
 use Rattle.frame.specs.Writing.{timeOf, carryOf, headBytes, withCheckWord, twice, subBytes, frameBytes}
 use Rattle.frame.specs.RoundTrip.{Writable}
 use Rattle.frame.proofs.Alike.{both, same-refl}

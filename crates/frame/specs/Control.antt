@@ -3,7 +3,8 @@ use mathlib.Core.Bool.{Bool, true, false, _&&_, _||_, not, cond, Bool·beq}
 use Prim.Native.Nat.{ℕ, _+_, _*_, _/_, _%_, _^_}
 use lib.Dec.{eqb}
 use Rattle.frame.specs.declared.Command.{Command}
-use Rattle.frame.specs.declared.Command.the-variants.{Connect, ConfirmNetwork, VerifyStation, Disconnect, RefreshReady, RefreshGo, Refresh}
+use Rattle.frame.specs.declared.Command.the-variants.{Connect, ConfirmNetwork, VerifyStation, Disconnect}
+use Rattle.frame.specs.declared.Command.the-variants.{RefreshReady, RefreshGo, Refresh}
 use Rattle.frame.specs.declared.Session.{Session}
 use Rattle.frame.specs.declared.Session.the-variants.{Absent, Number}
 use Rattle.frame.specs.declared.Fields.{Fields}

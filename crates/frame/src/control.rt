@@ -1,7 +1,8 @@
 // CTRL: a command's code, the word of the fields, and the form rule.
 ghost use mathlib.Core.Path.{_≡_};
 ghost use Prim.Native.Nat.{_≤_, _<_};
-ghost use Rattle.frame.specs.Control.{codeOf, commandOf, is, sessionBits, sessionOf, isAbsent, flag, controlOf, hasForm};
+ghost use Rattle.frame.specs.Control.{codeOf, commandOf, is, sessionBits, sessionOf, isAbsent, flag, controlOf};
+ghost use Rattle.frame.specs.Control.{hasForm};
 use super::Command;
 use super::Fields;
 use super::Session;

@@ -2,7 +2,8 @@
 ghost use mathlib.Core.Path.{_≡_};
 ghost use Prim.Native.Nat.{_≤_};
 ghost use lib.ListN.{length};
-ghost use Rattle.frame.specs.Reading.{isFrameLength, same, hasCheckWord, fieldsOf, fieldsIn, isFormed, readingOfCopies, readingOf, faultNumber, numberOf};
+ghost use Rattle.frame.specs.Reading.{isFrameLength, same, hasCheckWord, fieldsOf, fieldsIn, isFormed};
+ghost use Rattle.frame.specs.Reading.{readingOfCopies, readingOf, faultNumber, numberOf};
 use super::Fault;
 use super::Fields;
 use super::Reading;

@@ -17,7 +17,9 @@ use Rattle.endpoint.specs.Time.{isExpired}
 use Rattle.steps.specs.Calls.{isFailSafe, shownOf}
 use Rattle.steps.proofs.Dispatch.{cond-false}
 use Rattle.steps.proofs.Keeps.{bcase}
-use Rattle.link.specs.Runs.{Clocks, momentOf, clockLimit, Call, start, send, deliver, stop, restart, show, Event, callOf, Entry, entryAt, logged, Show, showAt, Link, mayDeliver, tookBy, shownBy, afterEvent, afterAll, begun}
+use Rattle.link.specs.Runs.{Clocks, momentOf, clockLimit, Call, start, send, deliver, stop, restart, show, Event}
+use Rattle.link.specs.Runs.{callOf, Entry, entryAt, logged, Show, showAt, Link, mayDeliver, tookBy, shownBy}
+use Rattle.link.specs.Runs.{afterEvent, afterAll, begun}
 use Rattle.link.specs.Fresh.{Paired, boundOf, ItsSend, Fresh, AgeTheorem, Silence}
 use Rattle.link.proofs.Marks.{size}
 use Rattle.link.proofs.Invariant.{restM, restS, Inv}

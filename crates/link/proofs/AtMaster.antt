@@ -12,7 +12,8 @@ use Rattle.frame.specs.declared.Fields.{Fields}
 use Rattle.frame.specs.Control.{is, codeOf}
 use Rattle.endpoint.specs.declared.Settings.{Settings}
 use Rattle.endpoint.specs.declared.State.{State}
-use Rattle.endpoint.specs.declared.State.the-variants.{Close, Starting, EstablishPending, Establish, ParamVerify, RefreshPending, Refresh, Terminate}
+use Rattle.endpoint.specs.declared.State.the-variants.{Close, Starting, EstablishPending, Establish, ParamVerify}
+use Rattle.endpoint.specs.declared.State.the-variants.{RefreshPending, Refresh, Terminate}
 use Rattle.endpoint.specs.declared.Timestamps.{Timestamps}
 use Rattle.endpoint.specs.declared.Pending.the-variants.{Nothing}
 use Rattle.endpoint.specs.declared.Endpoint.{Endpoint}
@@ -26,13 +27,17 @@ use Rattle.steps.proofs.Dispatch.{cond-false}
 use Rattle.link.specs.Runs.{Clocks, clockLimit, Entry}
 use Rattle.link.specs.Fresh.{Paired}
 use Rattle.link.proofs.Marks.{Mark, mark, at, snoc, Has}
-use Rattle.link.proofs.Invariant.{Terms, Small, MPhase, restM, asked, got, liveM, Master, Inv, MPh, GoOf, Held, ValueOf, wobble}
+use Rattle.link.proofs.Invariant.{Terms, Small, MPhase, restM, asked, got, liveM, Master, Inv, MPh, GoOf, Held}
+use Rattle.link.proofs.Invariant.{ValueOf, wobble}
 use Rattle.link.proofs.Kept.{m-phase, m-got, m-writes, m-goes, m-takes, held-rises}
-use Rattle.link.proofs.Relation.{termsOf, small-of, whoOf, markOf, marks, topOf, above-top, Holds, RelM, Honest, Linked, setup-timer, refresh-timer, master-time, young-of}
+use Rattle.link.proofs.Relation.{termsOf, small-of, whoOf, markOf, marks, topOf, above-top, Holds, RelM, Honest}
+use Rattle.link.proofs.Relation.{Linked, setup-timer, refresh-timer, master-time, young-of}
 use Rattle.link.proofs.Ages.{Young, young-more}
-use Rattle.link.proofs.Entries.{marks-snoc, honest-snoc, is-eq, FoundAt, in-log, the-mark, marked-code, marked-stamp, marked-body}
+use Rattle.link.proofs.Entries.{marks-snoc, honest-snoc, is-eq, FoundAt, in-log, the-mark, marked-code}
+use Rattle.link.proofs.Entries.{marked-stamp, marked-body}
 use Rattle.link.proofs.Shown.{ShownAt, in-refresh, is-taken, shown-is}
-use Rattle.link.proofs.Codes.{go-due, go-baseline, request-not-refresh, setup-not-refresh, refresh-not-setup, pending-setup}
+use Rattle.link.proofs.Codes.{go-due, go-baseline, request-not-refresh, setup-not-refresh, refresh-not-setup}
+use Rattle.link.proofs.Codes.{pending-setup}
 
 module _ (c : Clocks) (sm ss : Settings) (p : Paired sm ss) {l : List Entry} {em es : Endpoint} {tm ts : ℕ} (t : ℕ)
     (lim : t ≤ clockLimit)

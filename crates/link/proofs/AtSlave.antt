@@ -30,8 +30,10 @@ use Rattle.link.proofs.Marks.{Mark, mark, at, snoc}
 use Rattle.link.proofs.Ages.{Young}
 use Rattle.link.proofs.Invariant.{SPhase, restS, armed, liveS, Slave, Inv, SPh, Held, LiveS, wobble}
 use Rattle.link.proofs.Kept.{s-phase, s-hears, s-replies, s-arms, s-goes, s-sends, s-takes, held-rises}
-use Rattle.link.proofs.Relation.{termsOf, small-of, markOf, marks, topOf, above-top, Holds, RelS, Honest, Linked, setup-timer, refresh-timer, slave-time, young-of}
-use Rattle.link.proofs.Entries.{marks-snoc, honest-snoc, FoundAt, in-log, the-mark, marked-code, marked-stamp, marked-body}
+use Rattle.link.proofs.Relation.{termsOf, small-of, markOf, marks, topOf, above-top, Holds, RelS, Honest, Linked}
+use Rattle.link.proofs.Relation.{setup-timer, refresh-timer, slave-time, young-of}
+use Rattle.link.proofs.Entries.{marks-snoc, honest-snoc, FoundAt, in-log, the-mark, marked-code, marked-stamp}
+use Rattle.link.proofs.Entries.{marked-body}
 use Rattle.link.proofs.Shown.{ShownAt, in-refresh, is-taken, shown-is}
 use Rattle.link.proofs.Codes.{refresh-not-setup, pending-setup, targetOf, leads, go-from}
 

@@ -23,7 +23,8 @@ use Rattle.steps.proofs.Dispatch.{cond-true, cond-false, deliver-request, deliv
 use Rattle.steps.proofs.Dones.{send-done, stop-done, refresh-done, request-done, reply-done}
 use Rattle.steps.proofs.Firsts.{not-dropped}
 use Rattle.steps.proofs.Keeps.{bcase}
-use Rattle.link.specs.Runs.{Clocks, clockLimit, Call, send, deliver, stop, Entry, logged, mayDeliver, tookBy, callOf}
+use Rattle.link.specs.Runs.{Clocks, clockLimit, Call, send, deliver, stop, Entry, logged, mayDeliver, tookBy}
+use Rattle.link.specs.Runs.{callOf}
 use Rattle.link.specs.Fresh.{Paired}
 use Rattle.link.proofs.Relation.{Linked}
 use Rattle.link.proofs.Entries.{FoundAt}

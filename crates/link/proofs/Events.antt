@@ -22,11 +22,13 @@ use Rattle.endpoint.specs.Answers.{firstOf, isDone, isDropped}
 use Rattle.endpoint.specs.Table.{isState}
 use Rattle.endpoint.specs.Time.{endedOf}
 use Rattle.steps.specs.Frames.{nothing, written}
-use Rattle.steps.specs.Calls.{Outcome, outcome, dropped, startedOf, restartedOf, sendFaults, sentOf, sendOf, stopFaults, stopOf}
+use Rattle.steps.specs.Calls.{Outcome, outcome, dropped, startedOf, restartedOf, sendFaults, sentOf, sendOf, stopFaults}
+use Rattle.steps.specs.Calls.{stopOf}
 use Rattle.steps.specs.Deliveries.{refreshFaults, refreshedOf, paddedOf, takeRefresh, deliverOf}
 use Rattle.steps.proofs.Dispatch.{cond-true, cond-false, deliver-echo, deliver-refresh}
 use Rattle.steps.proofs.Keeps.{bcase}
-use Rattle.link.specs.Runs.{Call, start, send, deliver, stop, restart, show, Entry, logged, lastOf, mayDeliver, tookBy, actOf}
+use Rattle.link.specs.Runs.{Call, start, send, deliver, stop, restart, show, Entry, logged, lastOf, mayDeliver}
+use Rattle.link.specs.Runs.{tookBy, actOf}
 use Rattle.link.proofs.Entries.{FoundAt, found-at}
 
 -- ---- send and stop are done or dropped

@@ -7,9 +7,13 @@ use Prim.Native.Nat.{ℕ, zero, suc, _+_, _-_, _%_, _≤_, _<_}
 use native.Mathlib.Omega.{arith}
 use native.Mathlib.Decide.{ℕ-discrete, decLt}
 use Rattle.endpoint.specs.Time.{span, minus}
-use Rattle.link.proofs.Marks.{Mark, mark, size, at, snoc, Each, Has, still, longer, each-snoc, has-snoc, has-new, pairs-snoc}
+use Rattle.link.proofs.Marks.{Mark, mark, size, at, snoc, Each, Has, still, longer, each-snoc, has-snoc, has-new}
+use Rattle.link.proofs.Marks.{pairs-snoc}
 use Rattle.link.proofs.Ages.{Young, le-or-lt, offset-near, estimate, lapse-slave, lapse-master}
-use Rattle.link.proofs.Invariant.{limit, Terms, Small, MPhase, restM, asked, got, liveM, Master, SPhase, restS, armed, liveS, Slave, GoOf, Stamped, Rising, LogInv, HeldOf, Held, ValueIs, ValueOf, GotOf, MPh, MInv, ArmedOf, Armed, Request, LiveS, At, wobble, pace, pace-hold, elder, SPh, SInv, Inv}
+use Rattle.link.proofs.Invariant.{limit, Terms, Small, MPhase, restM, asked, got, liveM, Master, SPhase, restS}
+use Rattle.link.proofs.Invariant.{armed, liveS, Slave, GoOf, Stamped, Rising, LogInv, HeldOf, Held, ValueIs}
+use Rattle.link.proofs.Invariant.{ValueOf, GotOf, MPh, MInv, ArmedOf, Armed, Request, LiveS, At, wobble, pace}
+use Rattle.link.proofs.Invariant.{pace-hold, elder, SPh, SInv, Inv}
 
 -- time passes
 pub log-later : (c : Terms) (now m : ℕ) (l : List Mark) → now ≤ m → LogInv c now l → LogInv c m l

@@ -4,7 +4,8 @@ ghost use mathlib.Core.Path.{_≡_};
 ghost use lib.ListN.{getD};
 ghost use Prim.Native.Nat.{_<_};
 ghost use Rattle.settings.specs.Words.{restOf, isTicks, isWords, hasKinds, hasRanges, connectionOf, settingsOf};
-ghost use Rattle.settings.specs.Lists.{wordOf, connectionAt, settingsAt, isConnectionAt, isNewAt, areConnections, isList};
+ghost use Rattle.settings.specs.Lists.{wordOf, connectionAt, settingsAt, isConnectionAt, isNewAt, areConnections};
+ghost use Rattle.settings.specs.Lists.{isList};
 use endpoint::Settings;
 
 // The word at k, 0 past the end.

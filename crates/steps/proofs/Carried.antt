@@ -18,10 +18,12 @@ use Rattle.steps.specs.Frames.{written}
 use Rattle.steps.specs.Calls.{Outcome, isNothing, mayRequest, sendFaults, sendOf, stopFaults, stopOf}
 use Rattle.steps.specs.Deliveries.{requestFaults, repliedOf, deliverOf}
 use Rattle.steps.specs.Laws.{Carries}
-use Rattle.steps.proofs.Dispatch.{cond-true, cond-false, deliver-echo, deliver-refresh, deliver-request, deliver-reply}
+use Rattle.steps.proofs.Dispatch.{cond-true, cond-false, deliver-echo, deliver-refresh, deliver-request}
+use Rattle.steps.proofs.Dispatch.{deliver-reply}
 use Rattle.steps.proofs.Firsts.{not-dropped, sent-width, request-width, neither}
 use Rattle.steps.proofs.Keeps.{bcase}
-use Rattle.steps.proofs.Whole.{request-writable, refresh-writable, disconnect-writable, reply-writable, send-width-length, setup-length}
+use Rattle.steps.proofs.Whole.{request-writable, refresh-writable, disconnect-writable, reply-writable}
+use Rattle.steps.proofs.Whole.{send-width-length, setup-length}
 
 -- a send that is not dropped, outside Refresh, is a request
 pub may-request : (e : Endpoint) (t n : ℕ) → isState (e .state) Refresh ≡ false

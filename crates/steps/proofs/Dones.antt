@@ -25,9 +25,12 @@ use Rattle.endpoint.specs.Answers.{firstOf, isDropped}
 use Rattle.endpoint.specs.Table.{isState, isSetup, requestOf}
 use Rattle.endpoint.specs.Time.{isAbove}
 use Rattle.steps.specs.Frames.{setupData, showWidth, timeOf}
-use Rattle.steps.specs.Calls.{Outcome, dropped, isNothing, startOf, restartOf, sendFaults, sendOf, stopFaults, stopOf}
-use Rattle.steps.specs.Deliveries.{isAsked, answersTo, refreshFaults, requestFaults, replyFaults, takeRefresh, takeRequest, takeReply, deliverOf}
-use Rattle.steps.specs.Laws.{StartDone, RestartDone, RefreshSent, RequestSent, StopDone, RefreshTaken, RequestTaken, DisconnectTaken, ReplyTaken}
+use Rattle.steps.specs.Calls.{Outcome, dropped, isNothing, startOf, restartOf, sendFaults, sendOf, stopFaults}
+use Rattle.steps.specs.Calls.{stopOf}
+use Rattle.steps.specs.Deliveries.{isAsked, answersTo, refreshFaults, requestFaults, replyFaults, takeRefresh}
+use Rattle.steps.specs.Deliveries.{takeRequest, takeReply, deliverOf}
+use Rattle.steps.specs.Laws.{StartDone, RestartDone, RefreshSent, RequestSent, StopDone, RefreshTaken}
+use Rattle.steps.specs.Laws.{RequestTaken, DisconnectTaken, ReplyTaken}
 use Rattle.steps.proofs.Carried.{may-request, master-requests}
 use Rattle.steps.proofs.Dispatch.{deliver-echo, deliver-refresh, deliver-request, deliver-reply}
 use Rattle.steps.proofs.Firsts.{not-dropped, not-soon, first-done, sent-width, neither}

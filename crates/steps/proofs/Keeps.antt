@@ -16,7 +16,9 @@ use Rattle.endpoint.specs.Answers.{firstOf, isDropped}
 use Rattle.endpoint.specs.Table.{isState}
 use Rattle.endpoint.specs.Time.{endedOf}
 use Rattle.steps.specs.Calls.{Outcome, startOf, restartOf, sendFaults, sendOf, stopFaults, stopOf}
-use Rattle.steps.specs.Deliveries.{leftBy, takenOf, endedBy, advancedOf, refreshedOf, paddedOf, confirmedOf, requestFaults, refreshFaults, replyFaults, takeRefresh, takeRequest, takeReply, deliverOf}
+use Rattle.steps.specs.Deliveries.{leftBy, takenOf, endedBy, advancedOf, refreshedOf, paddedOf, confirmedOf}
+use Rattle.steps.specs.Deliveries.{requestFaults, refreshFaults, replyFaults, takeRefresh, takeRequest, takeReply}
+use Rattle.steps.specs.Deliveries.{deliverOf}
 use Rattle.steps.proofs.Dispatch.{deliver-echo, deliver-refresh, deliver-request, deliver-reply}
 
 -- by cases on a test

@@ -21,7 +21,8 @@ use Rattle.steps.specs.Frames.{setupData, plainFields, baselineOf}
 use Rattle.steps.specs.Calls.{Outcome, sendFaults, sendOf, stopFaults, stopOf}
 use Rattle.steps.specs.Deliveries.{requestFaults, repliedOf, deliverOf}
 use Rattle.steps.specs.Laws.{SettingsFit, IsTyped}
-use Rattle.steps.proofs.Dispatch.{cond-true, cond-false, deliver-echo, deliver-refresh, deliver-request, deliver-reply}
+use Rattle.steps.proofs.Dispatch.{cond-true, cond-false, deliver-echo, deliver-refresh, deliver-request}
+use Rattle.steps.proofs.Dispatch.{deliver-reply}
 use Rattle.steps.proofs.Keeps.{bcase}
 
 word : (w : ℕ) (s : List ℕ) → w < 2 ^ 32 → Bytes s → Bytes (wordBytes w ++ s)

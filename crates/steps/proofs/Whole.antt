@@ -17,11 +17,13 @@ use Rattle.frame.proofs.Alike.{and-left, and-right, both}
 use Rattle.frame.proofs.Lengths.{can-be-written}
 use Rattle.endpoint.specs.declared.Settings.{Settings}
 use Rattle.endpoint.specs.declared.State.{State}
-use Rattle.endpoint.specs.declared.State.the-variants.{Close, Starting, EstablishPending, Establish, ParamVerify, RefreshPending, Refresh, Terminate}
+use Rattle.endpoint.specs.declared.State.the-variants.{Close, Starting, EstablishPending, Establish, ParamVerify}
+use Rattle.endpoint.specs.declared.State.the-variants.{RefreshPending, Refresh, Terminate}
 use Rattle.endpoint.specs.declared.Endpoint.{Endpoint}
 use Rattle.endpoint.specs.Table.{requestOf}
 use Rattle.endpoint.specs.Time.{span}
-use Rattle.steps.specs.Frames.{setupData, widthOf, sendWidth, showWidth, timeOf, plainFields, baselineOf, requestFields, refreshFields, disconnectFields, replyFields}
+use Rattle.steps.specs.Frames.{setupData, widthOf, sendWidth, showWidth, timeOf, plainFields, baselineOf}
+use Rattle.steps.specs.Frames.{requestFields, refreshFields, disconnectFields, replyFields}
 use Rattle.steps.specs.Says.{WholeSays}
 
 pub whole : (f : Fields) (body out : List ℕ) {out′ : List ℕ} {count : ℕ} → 248 ≤ length out

@@ -19,7 +19,8 @@ use Rattle.endpoint.specs.declared.Faults.{Faults}
 use Rattle.endpoint.specs.Answers.{firstOf, isDropped}
 use Rattle.endpoint.specs.Table.{isState, isSetup, requestOf}
 use Rattle.endpoint.specs.Time.{isAbove, noValue}
-use Rattle.steps.specs.Frames.{Written, nothing, written, setupData, sendWidth, showWidth, timeOf, requestFields, refreshFields, disconnectFields}
+use Rattle.steps.specs.Frames.{Written, nothing, written, setupData, sendWidth, showWidth, timeOf, requestFields}
+use Rattle.steps.specs.Frames.{refreshFields, disconnectFields}
 
 -- what a call comes to: its answer, the endpoint it leaves, what it writes
 pub record Outcome : Type 0 where

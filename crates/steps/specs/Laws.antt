@@ -18,9 +18,12 @@ use Rattle.endpoint.specs.declared.Reason.{Reason}
 use Rattle.endpoint.specs.declared.Answer.the-variants.{Done, Dropped}
 use Rattle.endpoint.specs.Table.{isState, isSetup, isNo, nextOf, requestOf}
 use Rattle.endpoint.specs.Time.{isAbove, isTooFarAhead, isTooLate, allowanceOf}
-use Rattle.steps.specs.Frames.{Written, nothing, written, setupData, sendWidth, showWidth, timeOf, requestFields, refreshFields, replyFields}
-use Rattle.steps.specs.Calls.{outcome, dropped, startedOf, restartedOf, requestedOf, refreshSentOf, stoppedOf, disconnectOf, startOf, restartOf, sendOf, stopOf}
-use Rattle.steps.specs.Deliveries.{paddedOf, refreshedOf, advancedOf, endedBy, confirmedOf, takeRefresh, takeRequest, takeReply, deliverOf, ageOf}
+use Rattle.steps.specs.Frames.{Written, nothing, written, setupData, sendWidth, showWidth, timeOf, requestFields}
+use Rattle.steps.specs.Frames.{refreshFields, replyFields}
+use Rattle.steps.specs.Calls.{outcome, dropped, startedOf, restartedOf, requestedOf, refreshSentOf, stoppedOf}
+use Rattle.steps.specs.Calls.{disconnectOf, startOf, restartOf, sendOf, stopOf}
+use Rattle.steps.specs.Deliveries.{paddedOf, refreshedOf, advancedOf, endedBy, confirmedOf, takeRefresh}
+use Rattle.steps.specs.Deliveries.{takeRequest, takeReply, deliverOf, ageOf}
 
 -- what is written can be written, and carries the endpoint's CID and its role's Application bit
 abbrev pub Carries : Endpoint → Written → Type 0

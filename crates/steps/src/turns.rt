@@ -2,7 +2,8 @@
 ghost use mathlib.Core.Path.{_≡_};
 ghost use lib.ListN.{length};
 ghost use Rattle.endpoint.specs.Answers.{firstOf};
-ghost use Rattle.steps.specs.Calls.{freshOf, startedOf, startOf, restartedOf, restartOf, stampedOf, stopFaults, stoppedOf, stopOf};
+ghost use Rattle.steps.specs.Calls.{freshOf, startedOf, startOf, restartedOf, restartOf, stampedOf, stopFaults};
+ghost use Rattle.steps.specs.Calls.{stoppedOf, stopOf};
 ghost use Rattle.steps.specs.Says.{steppedOf, plainStep, withRoom, StepSays};
 use super::Stepped;
 use super::requests::disconnect_fields;

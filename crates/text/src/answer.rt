@@ -2,7 +2,8 @@
 ghost use mathlib.Core.Path.{_≡_};
 ghost use Prim.Native.Nat.{_+_, _*_, _≤_};
 ghost use lib.ListN.{length, drop};
-ghost use Rattle.text.specs.Printing.{digitsOf, hexText, word, entryText, markText, endText, answerText, checkText, wrongText, every, isFill, Puts, Written};
+ghost use Rattle.text.specs.Printing.{digitsOf, hexText, word, entryText, markText, endText, answerText};
+ghost use Rattle.text.specs.Printing.{checkText, wrongText, every, isFill, Puts, Written};
 use super::Entry;
 use super::put::put_byte;
 use super::put::put_decimal;

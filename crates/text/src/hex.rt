@@ -4,7 +4,9 @@ ghost use Prim.Native.Nat.{_+_, _*_, _≤_};
 ghost use lib.ListN.{length, getD};
 ghost use Rattle.frame.specs.Output.{put};
 ghost use Rattle.text.specs.Printing.{every, Written};
-ghost use Rattle.text.specs.Reading.{isHexDigit, isHex, isFrame, digitOf, byteAt, upTo, byteIn, byteCount, bytesFrom, wordAt, settingAt, settingCount, settingsIn, isSettingAt, areSettings, isLoad};
+ghost use Rattle.text.specs.Reading.{isHexDigit, isHex, isFrame, digitOf, byteAt, upTo, byteIn, byteCount};
+ghost use Rattle.text.specs.Reading.{bytesFrom, wordAt, settingAt, settingCount, settingsIn, isSettingAt};
+ghost use Rattle.text.specs.Reading.{areSettings, isLoad};
 
 // The byte at k, 0 past the end.
 pub(crate) fn at(s: &[u8], k: usize) -> u8

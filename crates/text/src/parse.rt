@@ -2,7 +2,8 @@
 ghost use mathlib.Core.Path.{_≡_};
 ghost use Prim.Native.Nat.{_≤_};
 ghost use lib.ListN.{length};
-ghost use Rattle.text.specs.Calls.{nameOf, pairOf, callAt, timedOf, sendOf, deliverOf, roomOf, timedIn, sendIn, deliverIn, checkIn, callOf, lineOf};
+ghost use Rattle.text.specs.Calls.{nameOf, pairOf, callAt, timedOf, sendOf, deliverOf, roomOf, timedIn, sendIn};
+ghost use Rattle.text.specs.Calls.{deliverIn, checkIn, callOf, lineOf};
 use super::Line;
 use super::hex::at;
 use super::hex::is_frame;

@@ -2,7 +2,8 @@
 use mathlib.Core.Path.{refl}
 use mathlib.Core.List.{List, [], _∷_}
 use borrow.Author.Needs.{needs}
-use Rattle.endpoint.specs.declared.State.the-variants.{Close, EstablishPending, Establish, ParamVerify, RefreshPending, Refresh, Terminate}
+use Rattle.endpoint.specs.declared.State.the-variants.{Close, EstablishPending, Establish, ParamVerify}
+use Rattle.endpoint.specs.declared.State.the-variants.{RefreshPending, Refresh, Terminate}
 use Rattle.endpoint.specs.declared.Next.{Next}
 use Rattle.endpoint.specs.declared.Next.the-variants.{To, No}
 use Rattle.endpoint.proofs.Entries.{by-rows}

@@ -8,7 +8,8 @@ use borrow.Author.Tests.{not-true, not-false, lt-leb, le-leb}
 use lib.Dec.{leb}
 use lib.ListN.{length}
 use Rattle.frame.specs.Output.{put}
-use Rattle.frame.specs.Writing.{timeOf, carryOf, headBytes, withCheckWord, twice, subBytes, frameBytes, isWritable}
+use Rattle.frame.specs.Writing.{timeOf, carryOf, headBytes, withCheckWord, twice, subBytes, frameBytes}
+use Rattle.frame.specs.Writing.{isWritable}
 use Rattle.frame.proofs.Alike.{both}
 use Rattle.frame.proofs.Lengths.{can-be-written}
 use Rattle.frame.proofs.Written.{nothing, whole}
