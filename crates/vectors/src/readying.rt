@@ -3,7 +3,7 @@ use device::Called;
 use device::Device;
 
 // A master and a slave that hold one connection.
-pub struct Pair {
+pub(crate) struct Pair {
     pub master: Device,
     pub slave: Device,
 }
@@ -68,7 +68,7 @@ fn measured(out: &mut [u8]) -> Pair {
 }
 
 // Leaves the S-RefreshGO request in out.
-pub fn readying(out: &mut [u8]) {
+pub(crate) fn readying(out: &mut [u8]) {
     let ready = measured(out);
     exchange(ready, 1040, 6050, 1060, out);
 }
