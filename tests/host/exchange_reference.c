@@ -28,7 +28,7 @@ enum answer {
     CLOCK = 1,
     BUFFER = 2,
     ENTRY = 3,
-    STRANGER = 8,
+    UNKNOWN = 8,
     EXPIRED = 9,
     ECHO = 10,
     TURN = 11,
@@ -540,7 +540,7 @@ static struct called deliver(struct device *device, uint64_t clock, const uint8_
     data_length = length / 2 - AT_DATA - WORD_SIZE;
     entry = find(device, fields.cid);
     if (entry < 0) {
-        return gives(STRANGER, -1, 0);
+        return gives(UNKNOWN, -1, 0);
     }
     if (ended >> entry & 1u) {
         return gives(EXPIRED, entry, 0);

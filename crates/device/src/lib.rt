@@ -11,7 +11,7 @@ use endpoint::Endpoint;
 use endpoint::Timestamp;
 
 // Up to 8 connections: the first count of the table. A count above 8 counts as 8. The table stands first, and the device first in
-// Called, so that the compiler joins its copies.
+// Called: measured, calls are faster so.
 pub struct Device {
     pub endpoints: [Endpoint; 8],
     pub last: Timestamp,
