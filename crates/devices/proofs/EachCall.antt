@@ -2,6 +2,7 @@
 use mathlib.Core.Path.{_≡_, refl, sym, ap, subst, _∙_}
 use mathlib.Core.Bool.{Bool, true, false, _&&_, _||_, not, cond}
 use mathlib.Core.List.{List, [], _∷_}
+use mathlib.Core.Option.{none}
 use Prim.Native.Nat.{ℕ}
 use lib.Dec.{eqb, leb}
 use lib.ListN.{length}
@@ -175,7 +176,7 @@ module _ (cid : ℕ) (slave : Bool) (m : ℕ) (d₀ : Device) (n : ℕ) (T : Tab
       record {
         by = L.show;
         endpoint = ap (λ (r : Result). endpointAt (r .device .endpoints) n) q ∙ ticked-at d t n ∙ sym (c .0);
-        logs = ap (λ (b : Bool). cond {A = List Sent} b (record { slave = slave; moment = m; bytes = []; lent = [] } ∷ []) []) (empty cid) ∙ sym (ap (λ (w : Written). toLog (L.logged slave m L.show w)) (c .1));
+        logs = ap (λ (b : Bool). cond {A = List Sent} b (record { slave = slave; moment = m; bytes = []; lent = none } ∷ []) []) (empty cid) ∙ sym (ap (λ (w : Written). toLog (L.logged slave m L.show w)) (c .1));
         good = subst (λ (w : Written). AllGood cid (L.logged slave m L.show w)) (sym (c .1)) no-more;
         shows = ap (shownBy cid slave d m took (length log) (show n)) q
             ∙ ap (λ (b : Bool). cond {A = List L.Show} b (record { slave = slave; moment = m; bytes = shownOf x; sent = took; written = length log } ∷ []) []) v

@@ -2,6 +2,7 @@
 use mathlib.Core.Path.{_≡_, refl, sym, ap, subst, _∙_}
 use mathlib.Core.Bool.{Bool, true, false, not, cond, false≢true}
 use mathlib.Core.List.{List, [], _∷_}
+use mathlib.Core.Option.{Option}
 use Prim.Native.Nat.{ℕ, _<_}
 use lib.Dec.{eqb, ltb}
 use lib.ListN.{length}
@@ -71,7 +72,7 @@ own-log cid slave m call by x nothing c y q l =
 own-log cid slave m call by x (written f body) c y q l =
     ap (λ (b : Bool). cond {A = List Sent} b (record { slave = slave; moment = m; bytes = frameBytes f body; lent = lentTo call } ∷ []) [])
     (frame-of cid f body (writable x f body c y) ∙ eq-eqb (f .connection) cid (c .1 ∙ q))
-    ∙ ap (λ (v : List ℕ). record { slave = slave; moment = m; bytes = frameBytes f body; lent = v } ∷ []) l
+    ∙ ap (λ (v : Option (List ℕ)). record { slave = slave; moment = m; bytes = frameBytes f body; lent = v } ∷ []) l
 
 own-good : (cid : ℕ) (slave : Bool) (m : ℕ) (by : L.Call) (x : Endpoint) (w : Written) → Carries x w → IsTyped w
     → x .settings .connection ≡ cid

@@ -2,6 +2,7 @@
 use mathlib.Core.Path.{_≡_}
 use mathlib.Core.Bool.{Bool, true, false, not, cond}
 use mathlib.Core.List.{List}
+use mathlib.Core.Option.{some}
 use Prim.Native.Nat.{ℕ, suc, _+_, _≤_, _<_}
 use lib.ListN.{length}
 use Rattle.endpoint.specs.declared.Settings.{Settings}
@@ -24,11 +25,11 @@ pub record Holds (list : List ℕ) (cid : ℕ) (slave : Bool) : Type 0 where
 abbrev pub settingsIn : {list : List ℕ} {cid : ℕ} {slave : Bool} → Holds list cid slave → Settings
 settingsIn {list = list} h = endpointAt (loadedOf list .device .endpoints) (h .entry) .settings
 
--- the send of a show: by the other end, an S-Refresh of the CID, of the value shown, and not too old
+-- the send of a show: by the other end, an S-Refresh of the CID, lent the value shown, and not too old
 pub record ItsSend (cid bound : ℕ) (x : Show) (w : Sent) : Type 0 where
   pub other : w .slave ≡ not (x .slave)
   pub refresh : isRefreshOf cid (w .bytes) ≡ true
-  pub value : w .lent ≡ x .bytes
+  pub value : w .lent ≡ some (x .bytes)
   pub before : w .moment ≤ x .moment
   pub young : x .moment ≤ w .moment + bound
 

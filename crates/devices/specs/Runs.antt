@@ -2,6 +2,7 @@
 -- written and which values of it were shown.
 use mathlib.Core.Bool.{Bool, true, false, _&&_, _||_, not, cond}
 use mathlib.Core.List.{List, [], _∷_, _++_}
+use mathlib.Core.Option.{Option, some, none}
 use Prim.Native.Nat.{ℕ, suc}
 use lib.Dec.{eqb, leb, ltb}
 use lib.ListN.{length, getD}
@@ -66,16 +67,16 @@ areBytes [] = true
 areBytes (b ∷ s) = ltb b 256 && areBytes s
 
 -- ---- the frames of the CID that were written, oldest first
--- by whom, when, the bytes, and the value that was lent to the call
+-- by whom, when, the bytes, and the value lent to the call: only a send is lent one
 pub record Sent : Type 0 where
   pub slave : Bool
   pub moment : ℕ
   pub bytes : List ℕ
-  pub lent : List ℕ
+  pub lent : Option (List ℕ)
 
 -- what stands past the end of the log is of no account
 abbrev pub noSent : Sent
-noSent = record { slave = false; moment = 0; bytes = []; lent = [] }
+noSent = record { slave = false; moment = 0; bytes = []; lent = none }
 
 unfoldable pub sentAt : List Sent → ℕ → Sent
 sentAt l i = getD l i noSent
@@ -89,13 +90,13 @@ frameBy (stop n) writes = writes
 frameBy (restart n) writes = []
 frameBy (show n) writes = []
 
-abbrev pub lentTo : Call → List ℕ
-lentTo (start n) = []
-lentTo (send n value) = value
-lentTo (deliver s) = []
-lentTo (stop n) = []
-lentTo (restart n) = []
-lentTo (show n) = []
+abbrev pub lentTo : Call → Option (List ℕ)
+lentTo (start n) = none
+lentTo (send n value) = some value
+lentTo (deliver s) = none
+lentTo (stop n) = none
+lentTo (restart n) = none
+lentTo (show n) = none
 
 abbrev pub logged : ℕ → Bool → ℕ → Call → List ℕ → List Sent
 logged cid slave m call bytes =

@@ -125,7 +125,7 @@ module _ (c : Clocks) (sm ss : Settings) (p : Paired sm ss) {l : List Entry} {em
       moment = t + c .master;
       fields = requestFields em t;
       body = setupData (em .settings) (requestOf (em .state));
-      lent = value;
+      lent = some value;
     }
 
     above-t : topOf (em .timestamps .sent) ≤ t
@@ -186,8 +186,7 @@ module _ (c : Clocks) (sm ss : Settings) (p : Paired sm ss) {l : List Entry} {em
       moment = t + c .master;
       fields = refreshFields em t;
       body = value;
-      lent =
-          value;
+      lent = some value;
     }
 
     refresh-mark : markOf refreshing ≡ mark 0 255 t 0 (t + c .master) value
@@ -228,7 +227,7 @@ module _ (c : Clocks) (sm ss : Settings) (p : Paired sm ss) {l : List Entry} {em
       moment = t + c .master;
       fields = disconnectFields em t;
       body = setupData (em .settings) K.Disconnect;
-      lent = [];
+      lent = none;
     }
 
     leaving-mark : markOf leaving ≡ mark 0 249 t 0 (t + c .master) (setupData (em .settings) K.Disconnect)

@@ -116,10 +116,10 @@ pub record RelS (e : Endpoint) (took : ℕ) (s : Slave) : Type 0 where
   pub ready : isState (e .state) RefreshPending ≡ true → ArmedAt e s
 
 -- ---- both, and the log
--- an entry's frame tells its writer, and an S-Refresh its lent value
+-- an entry's frame tells its writer, and an S-Refresh that a send was lent its body
 pub record Honest (w : Entry) : Type 0 where
   pub writer : w .fields .application ≡ w .slave
-  pub value : is (w .fields .command) K.Refresh ≡ true → w .lent ≡ w .body
+  pub value : is (w .fields .command) K.Refresh ≡ true → w .lent ≡ some (w .body)
 
 pub record Linked (c : Clocks) (sm ss : Settings) (now : ℕ) (l : List Entry) (em es : Endpoint) (tm ts : ℕ) : Type 0
   where

@@ -2,6 +2,7 @@
 use mathlib.Core.Path.{_≡_, refl, sym, ap, subst, _∙_}
 use mathlib.Core.Bool.{Bool, true, false, not, cond}
 use mathlib.Core.List.{List, [], _∷_, _++_}
+use mathlib.Core.Option.{some}
 use Prim.Native.Nat.{ℕ, suc, _+_, _≤_, _<_}
 use native.Mathlib.Numerals.{add-one}
 use native.Mathlib.Omega.{arith}
@@ -157,7 +158,7 @@ sent-by sm ss log slave took m bytes honest s =
       fits = record {
         other = sym (h .writer) ∙ writer-of slave (entryAt log k .fields) w;
         refresh = r;
-        value = h .value r ∙ sym (ap (λ (y : Mark). y .body) q) ∙ s .body;
+        value = h .value r ∙ ap some (sym (ap (λ (y : Mark). y .body) q) ∙ s .body);
         before = omega arith;
         young = omega arith;
       };

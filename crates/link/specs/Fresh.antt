@@ -2,6 +2,7 @@
 use mathlib.Core.Path.{_≡_}
 use mathlib.Core.Bool.{Bool, true, false, not, cond}
 use mathlib.Core.List.{List}
+use mathlib.Core.Option.{some}
 use Prim.Native.Nat.{ℕ, suc, _+_, _≤_, _<_}
 use lib.ListN.{length}
 use Rattle.frame.specs.declared.Command.the-variants as K
@@ -25,11 +26,11 @@ pub record Paired (sm ss : Settings) : Type 0 where
 abbrev pub boundOf : Settings → ℕ
 boundOf s = s .age + (s .interval + cond (s .slave) 0 (s .roundtrip))
 
--- the send of a show: by the other end, an S-Refresh of the value shown, and not too old
+-- the send of a show: by the other end, an S-Refresh, lent the value shown, and not too old
 pub record ItsSend (bound : ℕ) (x : Show) (w : Entry) : Type 0 where
   pub other : w .slave ≡ not (x .slave)
   pub refresh : is (w .fields .command) K.Refresh ≡ true
-  pub value : w .lent ≡ x .bytes
+  pub value : w .lent ≡ some (x .bytes)
   pub before : w .moment ≤ x .moment
   pub young : x .moment ≤ w .moment + bound
 

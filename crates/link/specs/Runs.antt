@@ -1,6 +1,7 @@
 -- Two endpoints of one CID over a list of calls (document 01, "What demand 3 runs over"), with frames as fields and bodies.
 use mathlib.Core.Bool.{Bool, true, false, _&&_, not, cond, Bool·beq}
 use mathlib.Core.List.{List, [], _∷_, _++_}
+use mathlib.Core.Option.{Option, some, none}
 use Prim.Native.Nat.{ℕ, suc, _+_, _-_}
 use lib.Dec.{eqb, leb}
 use lib.ListN.{length, getD}
@@ -61,13 +62,13 @@ abbrev pub callOf : Endpoint → ℕ → Call → Outcome
 callOf e t call = cond (isExpired e t) (outcome (Ended R.Expired) (endedOf e) nothing) (actOf e t call)
 
 -- ---- the frames written, oldest first
--- by whom, when, the fields and the body, and the value that was lent to the call
+-- by whom, when, the fields and the body, and the value lent to the call: only a send is lent one
 pub record Entry : Type 0 where
   pub slave : Bool
   pub moment : ℕ
   pub fields : Fields
   pub body : List ℕ
-  pub lent : List ℕ
+  pub lent : Option (List ℕ)
 
 -- what stands past the end of the log is of no account
 abbrev pub noEntry : Entry
@@ -76,19 +77,19 @@ noEntry = record {
   moment = 0;
   fields = plainFields K.Connect false false false 0 0 0;
   body = [];
-  lent = [];
+  lent = none;
 }
 
 unfoldable pub entryAt : List Entry → ℕ → Entry
 entryAt l i = getD l i noEntry
 
-abbrev pub lentTo : Call → List ℕ
-lentTo start = []
-lentTo (send value) = value
-lentTo (deliver f body) = []
-lentTo stop = []
-lentTo restart = []
-lentTo show = []
+abbrev pub lentTo : Call → Option (List ℕ)
+lentTo start = none
+lentTo (send value) = some value
+lentTo (deliver f body) = none
+lentTo stop = none
+lentTo restart = none
+lentTo show = none
 
 abbrev pub logged : Bool → ℕ → Call → Written → List Entry
 logged slave m call nothing = []
