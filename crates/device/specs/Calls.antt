@@ -29,7 +29,7 @@ use Rattle.device.specs.declared.Device.{Device}
 use Rattle.device.specs.declared.Entry.{Entry}
 use Rattle.device.specs.declared.Entry.the-variants.{Absent, At}
 use Rattle.device.specs.declared.Called.{Called}
-use Rattle.device.specs.Tables.{isEntry, endpointAt, entryOf}
+use Rattle.device.specs.Tables.{isEntry, endpointAt, entryOf, deviceOf}
 use Rattle.device.specs.Clock.{isReading, clockStep, afterClock}
 
 pub record Result : Type 0 where
@@ -38,6 +38,10 @@ pub record Result : Type 0 where
   pub writes : List ℕ
   pub failsafe : Bool
   pub device : Device
+
+abbrev pub result : Answer → Entry → List ℕ → Bool → Device → Result
+result answer entry writes failsafe device =
+    record { answer = answer; entry = entry; writes = writes; failsafe = failsafe; device = device }
 
 -- ---- refusals before a connection's own
 -- numbers 1 and 2; else what comes after them
@@ -58,13 +62,7 @@ refusedEntry a n = cond (isEnded a) (At n) Absent
 
 -- refused before the connection's own step
 abbrev pub refusedOf : Answer → ℕ → ℕ → Device → Result
-refusedOf a t n d = record {
-  answer = a;
-  entry = refusedEntry a n;
-  writes = [];
-  failsafe = false;
-  device = afterClock t d;
-}
+refusedOf a t n d = result a (refusedEntry a n) [] false (afterClock t d)
 
 -- what a call comes to that goes on where nothing of this refuses it
 abbrev pub unlessRefused : Answer → ℕ → ℕ → Device → Result → Result
@@ -72,17 +70,11 @@ unlessRefused a t n d r = cond (isDone a) r (refusedOf a t n d)
 
 -- ---- a call on an entry
 abbrev pub placed : ℕ → Endpoint → Device → Device
-placed n e d = record { last = d .last; count = d .count; endpoints = set (d .endpoints) n e }
+placed n e d = deviceOf (d .last) (d .count) (set (d .endpoints) n e)
 
 -- the connection's own step, put back into the table that the clock step left
 abbrev pub actedOf : Outcome → ℕ → ℕ → Device → Result
-actedOf o t n d = record {
-  answer = o .answer;
-  entry = At n;
-  writes = bytesOf (o .writes);
-  failsafe = false;
-  device = placed n (o .endpoint) (clockStep t d);
-}
+actedOf o t n d = result (o .answer) (At n) (bytesOf (o .writes)) false (placed n (o .endpoint) (clockStep t d))
 
 -- numbers 1, 2, 3 and 9, the first that applies; `short`: an output was lent and is under 248 bytes
 abbrev pub beforeEntry : Device → ℕ → Bool → ℕ → Answer
@@ -114,13 +106,7 @@ abbrev pub beforeShow : Device → ℕ → Bool → ℕ → Answer
 beforeShow d t short n = admit (d .last) t short (admitEntry (d .count) n Done)
 
 abbrev pub shownIn : Endpoint → ℕ → ℕ → Device → Result
-shownIn e t n d = record {
-  answer = Done;
-  entry = At n;
-  writes = shownOf e;
-  failsafe = isFailSafe e;
-  device = clockStep t d;
-}
+shownIn e t n d = result Done (At n) (shownOf e) (isFailSafe e) (clockStep t d)
 
 abbrev pub showIn : Device → ℕ → ℕ → ℕ → Result
 showIn d t room n =
@@ -146,26 +132,19 @@ abbrev pub deliverIn : Device → ℕ → ℕ → List ℕ → Result
 deliverIn d t room s = byReading d t room s (readingOf s)
 
 -- ---- how a function's result and its lent output stand to a result
+abbrev pub called : Answer → Entry → ℕ → Bool → Device → Called
+called answer entry count failsafe device =
+    record { answer = answer; entry = entry; count = count; failsafe = failsafe; device = device }
+
 abbrev pub calledOf : Result → Called
-calledOf r = record {
-  answer = r .answer;
-  entry = r .entry;
-  count = length (r .writes);
-  failsafe = r .failsafe;
-  device = r .device;
-}
+calledOf r = called (r .answer) (r .entry) (length (r .writes)) (r .failsafe) (r .device)
 
 -- a step on the connection at n, as the functions of `steps` give it
 abbrev pub stepCalled : Stepped → ℕ → ℕ → Device → Called
-stepCalled step t n d = record {
-  answer = step .answer;
-  entry = At n;
-  count = step .count;
-  failsafe = false;
-  device = placed n (step .endpoint) (clockStep t d);
-}
+stepCalled step t n d =
+    called (step .answer) (At n) (step .count) false (placed n (step .endpoint) (clockStep t d))
 
 -- a lent output: the written bytes stand over its front, the rest stays
-pub record CallSays (r : Result) (out out′ : List ℕ) (called : Called) : Type 0 where
-  pub told : called ≡ calledOf r
+pub record CallSays (r : Result) (out out′ : List ℕ) (c : Called) : Type 0 where
+  pub told : c ≡ calledOf r
   pub output : out′ ≡ over (r .writes) out

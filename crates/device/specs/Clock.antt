@@ -6,7 +6,7 @@ use Rattle.endpoint.specs.declared.Timestamp.{Timestamp}
 use Rattle.endpoint.specs.declared.Timestamp.the-variants.{Never, At}
 use Rattle.endpoint.specs.Time.{lastReading}
 use Rattle.device.specs.declared.Device.{Device}
-use Rattle.device.specs.Tables.{tickedAll}
+use Rattle.device.specs.Tables.{deviceOf, tickedAll}
 
 -- number 1 where this is false
 abbrev pub isReading : Timestamp → ℕ → Bool
@@ -14,7 +14,7 @@ isReading Never t = leb t lastReading
 isReading (At before) t = leb before t && leb t lastReading
 
 abbrev pub clockStep : ℕ → Device → Device
-clockStep t d = record { last = At t; count = d .count; endpoints = tickedAll t (d .endpoints) }
+clockStep t d = deviceOf (At t) (d .count) (tickedAll t (d .endpoints))
 
 -- what a call's clock reading leaves: number 1 changes nothing
 abbrev pub afterClock : ℕ → Device → Device

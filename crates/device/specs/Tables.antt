@@ -1,22 +1,24 @@
 -- A device's table of connections: its entries, and the clock step on all of them.
-use mathlib.Core.Bool.{Bool, false, _&&_, cond}
+use mathlib.Core.Bool.{Bool, _&&_, cond}
 use mathlib.Core.List.{List, [], _∷_, map}
 use Prim.Native.Nat.{ℕ, zero, suc}
 use lib.Dec.{eqb, ltb}
 use lib.ListN.{getD, replicate, set, take}
 use Rattle.endpoint.specs.declared.Settings.{Settings}
+use Rattle.endpoint.specs.declared.Timestamp.{Timestamp}
 use Rattle.endpoint.specs.declared.Timestamp.the-variants.{Never}
 use Rattle.endpoint.specs.declared.Endpoint.{Endpoint}
 use Rattle.endpoint.specs.Time.{afterTick}
 use Rattle.steps.specs.Calls.{freshOf}
+use Rattle.settings.specs.Words.{settingsOf}
 use Rattle.settings.specs.Lists.{settingsAt}
 use Rattle.device.specs.declared.Device.{Device}
 use Rattle.device.specs.declared.Entry.{Entry}
 use Rattle.device.specs.declared.Entry.the-variants.{Absent, At}
 
--- a place of the table that holds no connection
+-- a place of the table that holds no connection: the settings of seven zero words
 abbrev pub noSettings : Settings
-noSettings = record { connection = 0; slave = false; masterwords = 0; slavewords = 0; interval = 0; roundtrip = 0; age = 0; station = 0 }
+noSettings = settingsOf 0 0 0 0 0 0 0
 
 -- ---- entries
 -- the connections are the first `count` of 8 places
@@ -41,9 +43,12 @@ unfoldable pub freshUpTo : List ℕ → ℕ → List Endpoint
 freshUpTo ws zero = replicate 8 (freshOf noSettings)
 freshUpTo ws (suc n) = set (freshUpTo ws n) n (freshOf (settingsAt ws n))
 
+abbrev pub deviceOf : Timestamp → ℕ → List Endpoint → Device
+deviceOf last count endpoints = record { last = last; count = count; endpoints = endpoints }
+
 -- a device of no connections: never loaded, or after number 18
 unfoldable pub unloaded : Device
-unloaded = record { last = Never; count = 0; endpoints = replicate 8 (freshOf noSettings) }
+unloaded = deviceOf Never 0 (replicate 8 (freshOf noSettings))
 
 -- ---- the clock step of every connection
 unfoldable pub tickedAll : ℕ → List Endpoint → List Endpoint

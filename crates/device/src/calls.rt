@@ -134,7 +134,8 @@ pub fn start(device: Device, clock: u64, n: u32) -> Called
 
 // The next setup request, whatever value is lent; in Refresh the value.
 pub fn send(device: Device, clock: u64, n: u32, value: &[u8], out: &mut [u8]) -> Called
-    ensures { λ r. ⌜ CallSays (sendIn device clock (length (now (out .entry))) n (now (value .entry))) (now (out .entry)) (now (out .exit)) r ⌝ }
+    ensures { λ r. ⌜ CallSays (sendIn device clock (length (now (out .entry))) n (now (value .entry)))
+        (now (out .entry)) (now (out .exit)) r ⌝ }
 {
     let last = device.last;
     let endpoints = device.endpoints;
@@ -149,7 +150,8 @@ pub fn send(device: Device, clock: u64, n: u32, value: &[u8], out: &mut [u8]) ->
 
 // Terminate; a master's writes S-Disconnect.
 pub fn stop(device: Device, clock: u64, n: u32, out: &mut [u8]) -> Called
-    ensures { λ r. ⌜ CallSays (stopIn device clock (length (now (out .entry))) n) (now (out .entry)) (now (out .exit)) r ⌝ }
+    ensures { λ r. ⌜ CallSays (stopIn device clock (length (now (out .entry))) n)
+        (now (out .entry)) (now (out .exit)) r ⌝ }
 {
     let last = device.last;
     let endpoints = device.endpoints;
@@ -179,7 +181,8 @@ pub fn restart(device: Device, clock: u64, n: u32) -> Called
 
 // The last value accepted in this Refresh, or fail-safe: as the clock step left the connection.
 pub fn show(device: Device, clock: u64, n: u32, out: &mut [u8]) -> Called
-    ensures { λ r. ⌜ CallSays (showIn device clock (length (now (out .entry))) n) (now (out .entry)) (now (out .exit)) r ⌝ }
+    ensures { λ r. ⌜ CallSays (showIn device clock (length (now (out .entry))) n)
+        (now (out .entry)) (now (out .exit)) r ⌝ }
 {
     let last = device.last;
     let before = admitted(

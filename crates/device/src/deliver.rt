@@ -39,7 +39,8 @@ fn deliver_to(
     body: &[u8],
     out: &mut [u8],
 ) -> Called
-    ensures { λ r. ⌜ CallSays (byEntry device clock (length (now (out .entry))) fields (now (body .entry)) found) (now (out .entry)) (now (out .exit)) r ⌝ }
+    ensures { λ r. ⌜ CallSays (byEntry device clock (length (now (out .entry))) fields (now (body .entry)) found)
+        (now (out .entry)) (now (out .exit)) r ⌝ }
 {
     let short = out.len() < 248;
     match found {
@@ -64,7 +65,8 @@ fn deliver_to(
 
 // Bytes from the bus: numbers 4 to 7 where they are no frame. A slave's request writes its reply.
 pub fn deliver(device: Device, clock: u64, bytes: &[u8], out: &mut [u8]) -> Called
-    ensures { λ r. ⌜ CallSays (deliverIn device clock (length (now (out .entry))) (now (bytes .entry))) (now (out .entry)) (now (out .exit)) r ⌝ }
+    ensures { λ r. ⌜ CallSays (deliverIn device clock (length (now (out .entry))) (now (bytes .entry)))
+        (now (out .entry)) (now (out .exit)) r ⌝ }
 {
     let last = device.last;
     let endpoints = device.endpoints;

@@ -10,8 +10,8 @@ use endpoint::Answer;
 use endpoint::Endpoint;
 use endpoint::Timestamp;
 
-// Up to 8 connections: the first count of the table. A count above 8 counts as 8. The table stands first, and the device first in
-// Called: measured, calls are faster so.
+// Up to 8 connections: the first count of the table. A count above 8 counts as 8. The table stands first, and the
+// device first in Called: measured, calls are faster so.
 pub struct Device {
     pub endpoints: [Endpoint; 8],
     pub last: Timestamp,
@@ -24,8 +24,8 @@ pub enum Entry {
     At(u32),
 }
 
-// What a call answers: with its entry, the bytes written to the lent output, the mark 'fail-safe' of a show, and the device it
-// leaves.
+// What a call answers: with its entry, the bytes written to the lent output, the mark 'fail-safe' of a show, and the
+// device it leaves.
 pub struct Called {
     pub device: Device,
     pub answer: Answer,

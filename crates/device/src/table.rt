@@ -59,8 +59,8 @@ pub fn find(endpoints: [Endpoint; 8], count: u8, cid: u32) -> Entry
     found
 }
 
-// Every connection whose timer has expired is ended, the others stay as they are; then one is put at a place, past the table
-// none. Only what changes is stored.
+// Every connection whose timer has expired is ended, the others stay as they are; then one is put at a place, past
+// the table none. Only what changes is stored.
 pub fn ticked_with(
     endpoints: [Endpoint; 8],
     clock: u64,

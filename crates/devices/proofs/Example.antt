@@ -1,4 +1,5 @@
--- The theorem's premises can be met: two devices are loaded, the line starts, refreshes both ways, and shows both values. All of it is computed.
+-- The theorem's premises can be met: two devices are loaded, the line starts, refreshes both ways, and shows both
+-- values. All of it is computed.
 use mathlib.Core.Path.{_≡_, refl}
 use mathlib.Core.Bool.{true, false}
 use mathlib.Core.List.{List, [], _∷_, _++_}

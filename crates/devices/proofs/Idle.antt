@@ -1,5 +1,5 @@
--- A call that does not reach an endpoint takes the clock step on it, and that is all: in a run of two endpoints some refused call does the
--- same.
+-- A call that does not reach an endpoint takes the clock step on it, and that is all: in a run of two endpoints some
+-- refused call does the same.
 use mathlib.Core.Path.{_≡_, refl, sym, ap, _∙_}
 use mathlib.Core.Bool.{Bool, true, false, _&&_, not, cond}
 use Prim.Native.Nat.{ℕ}

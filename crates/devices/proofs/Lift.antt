@@ -1,5 +1,5 @@
--- Demand 3: every list of calls on two devices has a list of calls on the two endpoints of the CID that writes, takes and shows the same, so the
--- theorem on endpoints gives the one on devices.
+-- Demand 3: every list of calls on two devices has a list of calls on the two endpoints of the CID that writes, takes
+-- and shows the same, so the theorem on endpoints gives the one on devices.
 use mathlib.Core.Path.{_≡_, refl, sym, ap, ap₂, subst, _∙_}
 use mathlib.Core.Bool.{Bool, true, false, _&&_, not, cond}
 use mathlib.Core.List.{List, [], _∷_, _++_}

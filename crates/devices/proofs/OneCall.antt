@@ -1,4 +1,5 @@
--- One call on a device, seen from one CID's entry: some call on that endpoint does the same to it, and to what is written and shown of the CID.
+-- One call on a device, seen from one CID's entry: some call on that endpoint does the same to it, and to what is
+-- written and shown of the CID.
 use mathlib.Core.Path.{_≡_, refl, sym, ap, subst, _∙_}
 use mathlib.Core.Bool.{Bool, true, false, not, cond, false≢true}
 use mathlib.Core.List.{List, [], _∷_}

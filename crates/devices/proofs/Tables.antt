@@ -1,4 +1,5 @@
--- A device's table along calls: the settings stay, and so the entry of each CID; what the clock step and a step put back leave at a place.
+-- A device's table along calls: the settings stay, and so the entry of each CID; what the clock step and a step put
+-- back leave at a place.
 use mathlib.Core.Path.{_≡_, refl, sym, ap, ap₂, _∙_}
 use mathlib.Core.Bool.{Bool, true, false, cond, true≢false}
 use mathlib.Core.List.{List, [], _∷_, map}

@@ -1,25 +1,28 @@
--- Document 01's cases that are proved ("Cases at each edge", the rows marked P): what the definitions give beside what the paper states.
+-- Document 01's cases that are proved ("Cases at each edge", the rows marked P): what the definitions give beside
+-- what the paper states.
 use mathlib.Core.Path.{_≡_}
-use mathlib.Core.Bool.{true, false, cond}
+use mathlib.Core.Bool.{true, false, not, cond}
 use mathlib.Core.List.{List, [], _∷_, map}
 use Prim.Native.Nat.{ℕ, _/_, _%_}
 use lib.ListN.{replicate}
 use Rattle.frame.specs.declared.Command.the-variants as K
+use Rattle.frame.specs.declared.Fields.{Fields}
 use Rattle.frame.specs.Control.{controlOf}
 use Rattle.endpoint.specs.declared.Settings.{Settings}
 use Rattle.endpoint.specs.declared.State.{State}
 use Rattle.endpoint.specs.declared.State.the-variants.{RefreshPending, Refresh}
-use Rattle.endpoint.specs.declared.Timestamp.the-variants.{Never, At}
+use Rattle.endpoint.specs.declared.Timestamp.the-variants.{At}
 use Rattle.endpoint.specs.declared.Pending.the-variants.{Nothing}
 use Rattle.endpoint.specs.declared.Endpoint.{Endpoint}
 use Rattle.endpoint.specs.Answers.{numberOf}
-use Rattle.endpoint.specs.Time.{noValue}
+use Rattle.endpoint.specs.Updates.{inState, timedFrom, withSetup}
 use Rattle.steps.specs.Frames.{plainFields, refreshFields, replyFields}
-use Rattle.steps.specs.Calls.{freshOf}
+use Rattle.steps.specs.Calls.{Outcome, freshOf}
 use Rattle.steps.specs.Deliveries.{deliverOf}
+use Rattle.settings.specs.Words.{settingsOf}
 use Rattle.settings.specs.Lists.{settingsAt}
 use Rattle.device.specs.declared.Device.{Device}
-use Rattle.device.specs.Tables.{noSettings}
+use Rattle.device.specs.Tables.{noSettings, deviceOf}
 use Rattle.device.specs.Calls.{Result, showIn}
 
 -- master 1/2, slave 1/3, one word each way, I = 100, R = 50, A = 50: kinds 1 to 7
@@ -35,27 +38,11 @@ slaveSettings = settingsAt (listOf 0x30000421) 0
 
 -- the master's settings with age 0, so that only what counts as age 0 is accepted
 abbrev ageless : Settings
-ageless = record {
-  connection = masterSettings .connection;
-  slave = masterSettings .slave;
-  masterwords = masterSettings .masterwords;
-  slavewords = masterSettings .slavewords;
-  interval = masterSettings .interval;
-  roundtrip = masterSettings .roundtrip;
-  age = 0;
-  station = masterSettings .station;
-}
+ageless = settingsOf 0x0102 0x0103 0x021 100 50 0 7
 
 -- an endpoint in a state since some reading, with what it has measured and its ts_offset
 abbrev endpointIn : Settings → State → ℕ → ℕ → ℕ → Endpoint
-endpointIn s state since measured offset = record {
-  settings = s;
-  state = state;
-  since = since;
-  timestamps = record { sent = Never; accepted = Never };
-  setup = record { pending = Nothing; measured = measured; offset = offset };
-  value = noValue;
-}
+endpointIn s state since measured offset = inState state (timedFrom since (withSetup Nothing measured offset (freshOf s)))
 
 abbrev word : List ℕ
 word = 0 ∷ 0 ∷ 0 ∷ 1 ∷ []
@@ -63,20 +50,25 @@ word = 0 ∷ 0 ∷ 0 ∷ 1 ∷ []
 abbrev cid : ℕ
 cid = 0x01020103
 
+-- an S-Connect request
+abbrev connecting : Fields
+connecting = plainFields K.Connect false false false cid 10 0
+
 -- Readying: S-RefreshGO, sent at 1,040 with OBL 10, taken by the slave whose s2 is 6,010
 abbrev ready : Endpoint
 ready =
-    deliverOf (endpointIn slaveSettings RefreshPending 6010 6010 0) 6050 (plainFields K.RefreshGo false false false cid 1040 10)
-    (0 ∷ 0 ∷ 0 ∷ 0 ∷ []) .endpoint
+    deliverOf (endpointIn slaveSettings RefreshPending 6010 6010 0) 6050
+    (plainFields K.RefreshGo false false false cid 1040 10) (0 ∷ 0 ∷ 0 ∷ 0 ∷ []) .endpoint
 
--- an S-Refresh with this timestamp at an endpoint: the number it gets, and the endpoint it leaves
+-- an S-Refresh with this timestamp from the other end: what it comes to, the number it gets, and the endpoint it leaves
+abbrev refreshed : Endpoint → ℕ → ℕ → Outcome
+refreshed e t stamp = deliverOf e t (plainFields K.Refresh false false (not (e .settings .slave)) cid stamp 0) word
+
 abbrev refreshAt : Endpoint → ℕ → ℕ → ℕ
-refreshAt e t stamp =
-    numberOf (deliverOf e t (plainFields K.Refresh false false (cond (e .settings .slave) false true) cid stamp 0) word .answer)
+refreshAt e t stamp = numberOf (refreshed e t stamp .answer)
 
 abbrev afterRefresh : Endpoint → ℕ → ℕ → Endpoint
-afterRefresh e t stamp =
-    deliverOf e t (plainFields K.Refresh false false (cond (e .settings .slave) false true) cid stamp 0) word .endpoint
+afterRefresh e t stamp = refreshed e t stamp .endpoint
 
 -- the slave in Refresh, its time in the master's clock 4,980 ticks back, one S-Refresh accepted at 6,180
 abbrev first : Endpoint
@@ -84,11 +76,7 @@ first = afterRefresh (endpointIn slaveSettings Refresh 6150 6010 281474976705676
 
 -- the later one, stamp 1,200, accepted at 6,230, on a device of this connection alone
 abbrev shownFrom : Device
-shownFrom = record {
-  last = At 6230;
-  count = 1;
-  endpoints = afterRefresh first 6230 1200 ∷ replicate 7 (freshOf noSettings);
-}
+shownFrom = deviceOf (At 6230) 1 (afterRefresh first 6230 1200 ∷ replicate 7 (freshOf noSettings))
 
 abbrev markOf : Result → ℕ
 markOf r = cond (r .failsafe) 1 0
@@ -106,7 +94,7 @@ cases =
     case (masterSettings .connection) 0x01020103
     -- slave S-Refresh CTRL; S-Connect reply
     ∷ case (controlOf (refreshFields (endpointIn slaveSettings Refresh 0 0 0) 0)) 0xFF040000
-    ∷ case (controlOf (replyFields (freshOf slaveSettings) (plainFields K.Connect false false false cid 10 0) false)) 0x00840000
+    ∷ case (controlOf (replyFields (freshOf slaveSettings) connecting false)) 0x00840000
     -- sending time 65,530, ts_offset 10: T code 4, CC 1
     ∷ case (refreshFields (endpointIn slaveSettings Refresh 0 0 10) 65530 .timestamp % 65536) 4
     ∷ case (refreshFields (endpointIn slaveSettings Refresh 0 0 10) 65530 .timestamp / 65536) 1

@@ -1,4 +1,5 @@
--- Demand 3: for two devices just loaded that hold one CID, every value shown has its send, in order, and is not too old.
+-- Demand 3: for two devices just loaded that hold one CID, every value shown has its send, in order, and is not too
+-- old.
 use mathlib.Core.Path.{_≡_}
 use mathlib.Core.Bool.{Bool, true, false, not, cond}
 use mathlib.Core.List.{List}

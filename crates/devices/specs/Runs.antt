@@ -1,5 +1,5 @@
--- Two devices over a list of calls (document 01, "What demand 3 runs over"): for one CID that both hold, which frames of it were
--- written and which values of it were shown.
+-- Two devices over a list of calls (document 01, "What demand 3 runs over"): for one CID that both hold, which frames
+-- of it were written and which values of it were shown.
 use mathlib.Core.Bool.{Bool, true, false, _&&_, _||_, not, cond}
 use mathlib.Core.List.{List, [], _∷_, _++_}
 use mathlib.Core.Option.{Option, some, none}
@@ -131,8 +131,8 @@ deviceAt l slave = cond slave (l .slave) (l .master)
 abbrev pub tookAt : Run → Bool → ℕ
 tookAt l slave = cond slave (l .slaveTook) (l .masterTook)
 
--- a deliver hands over a frame of the CID that was written, at either end; or bytes that the reader takes for no frame, or for one
--- under another CID
+-- a deliver hands over a frame of the CID that was written, at either end; or bytes that the reader takes for no
+-- frame, or for one under another CID
 abbrev pub mayDeliver : ℕ → List Sent → Call → Bool
 mayDeliver cid l (start n) = true
 mayDeliver cid l (send n value) = true

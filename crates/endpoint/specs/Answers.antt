@@ -33,6 +33,16 @@ numberOf Done = 0
 numberOf (Dropped r) = reasonNumber r
 numberOf (Ended r) = reasonNumber r
 
+-- what can refuse a user's call: 11, 12 and 17
+abbrev pub callFaults : Bool → Bool → Bool → Faults
+callFaults turn width soon =
+    record { turn = turn; width = width; repeat = false; ahead = false; late = false; unequal = false; soon = soon }
+
+-- what can refuse a setup frame: 11, 12, 13 and 16
+abbrev pub setupFaults : Bool → Bool → Bool → Bool → Faults
+setupFaults turn width repeat unequal =
+    record { turn = turn; width = width; repeat = repeat; ahead = false; late = false; unequal = unequal; soon = false }
+
 -- the first that applies, in the order of the numbers; 15 and 16 end the connection
 abbrev pub firstOf : Faults → Answer
 firstOf f =

@@ -10,31 +10,8 @@ use Rattle.endpoint.specs.declared.State.the-variants.{RefreshPending, R
 use Rattle.endpoint.specs.declared.Next.{Next}
 use Rattle.endpoint.specs.declared.Next.the-variants.{To, No}
 
-abbrev pub stateNumber : State → ℕ
-stateNumber Close = 0
-stateNumber Starting = 1
-stateNumber EstablishPending = 2
-stateNumber Establish = 3
-stateNumber ParamVerify = 4
-stateNumber RefreshPending = 5
-stateNumber Refresh = 6
-stateNumber Terminate = 7
-
-abbrev pub isState : State → State → Bool
-isState a b = eqb (stateNumber a) (stateNumber b)
-
--- setup: all between Close and Refresh
-abbrev pub isSetup : State → Bool
-isSetup Close = false
-isSetup Starting = true
-isSetup EstablishPending = true
-isSetup Establish = true
-isSetup ParamVerify = true
-isSetup RefreshPending = true
-isSetup Refresh = false
-isSetup Terminate = false
-
--- one of eight, by the state
+-- one of eight, by the state: Close, Starting, EstablishPending, Establish, ParamVerify, RefreshPending, Refresh,
+-- Terminate
 abbrev pub byState : {A : Type 0} → State → A → A → A → A → A → A → A → A → A
 byState Close a b c d e f g h = a
 byState Starting a b c d e f g h = b
@@ -45,7 +22,17 @@ byState RefreshPending a b c d e f g h = f
 byState Refresh a b c d e f g h = g
 byState Terminate a b c d e f g h = h
 
--- a column of the table: what a command does in Close, Starting, EstablishPending, Establish, ParamVerify, RefreshPending, Refresh, Terminate
+abbrev pub stateNumber : State → ℕ
+stateNumber s = byState s 0 1 2 3 4 5 6 7
+
+abbrev pub isState : State → State → Bool
+isState a b = eqb (stateNumber a) (stateNumber b)
+
+-- setup: all between Close and Refresh
+abbrev pub isSetup : State → Bool
+isSetup s = byState s false true true true true true false false
+
+-- a column of the table: what a command does in each state
 abbrev pub nextOf : Command → State → Next
 nextOf K.Connect s = byState s (To EstablishPending) (To EstablishPending) (To EstablishPending) No No No No No
 nextOf K.ConfirmNetwork s = byState s No No (To Establish) No No No No No
@@ -67,7 +54,8 @@ stateTo No last = last
 
 -- the request that a master sends in a setup state, and whose reply moves it on; elsewhere none is due
 abbrev pub requestOf : State → Command
-requestOf s = byState s K.Connect K.Connect K.ConfirmNetwork K.VerifyStation K.RefreshReady K.RefreshGo K.Connect K.Connect
+requestOf s =
+    byState s K.Connect K.Connect K.ConfirmNetwork K.VerifyStation K.RefreshReady K.RefreshGo K.Connect K.Connect
 
 -- a command's column in the table
 abbrev pub columnOf : Command → ℕ

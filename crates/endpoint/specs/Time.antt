@@ -11,6 +11,7 @@ use Rattle.endpoint.specs.declared.Timestamp.the-variants.{Never, At}
 use Rattle.endpoint.specs.declared.Value.{Value}
 use Rattle.endpoint.specs.declared.Endpoint.{Endpoint}
 use Rattle.endpoint.specs.Table.{isState, isSetup}
+use Rattle.endpoint.specs.Updates.{inState, holding}
 
 -- 2^48, and half of it
 abbrev pub span : ℕ
@@ -57,7 +58,8 @@ offsetFrom stamp baseline measured = minus (minus stamp baseline) measured
 
 -- a timer has expired when more than its ticks have passed: R in setup, I in Refresh
 abbrev pub isOver : State → ℕ → ℕ → ℕ → Bool
-isOver state roundtrip interval passed = (isSetup state && ltb roundtrip passed) || (isState state Refresh && ltb interval passed)
+isOver state roundtrip interval passed =
+    (isSetup state && ltb roundtrip passed) || (isState state Refresh && ltb interval passed)
 
 abbrev pub isExpired : Endpoint → ℕ → Bool
 isExpired e t = isOver (e .state) (e .settings .roundtrip) (e .settings .interval) (t - e .since)
@@ -68,14 +70,7 @@ noValue = record { taken = false; bytes = replicate 100 0 }
 
 -- the connection ends: Terminate, and no value is held
 abbrev pub endedOf : Endpoint → Endpoint
-endedOf e = record {
-  settings = e .settings;
-  state = Terminate;
-  since = e .since;
-  timestamps = e .timestamps;
-  setup = e .setup;
-  value = noValue;
-}
+endedOf e = inState Terminate (holding noValue e)
 
 -- the clock step of one endpoint
 abbrev pub afterTick : Endpoint → ℕ → Endpoint

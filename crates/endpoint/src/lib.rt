@@ -1,5 +1,5 @@
-// One connection's end, as master or as slave: its record, the table of its states, its timers, timestamps and ages, and the
-// answers that calls on it get. The calls themselves are in the crate steps.
+// One connection's end, as master or as slave: its record, the table of its states, its timers, timestamps and ages,
+// and the answers that calls on it get. The calls themselves are in the crate steps.
 
 pub mod answers;
 pub mod table;
@@ -22,8 +22,8 @@ pub struct Settings {
     pub station: u32,
 }
 
-// The states of 001's table 40, for both roles. A master mirrors the slave: the matching reply moves it. Starting is a master's
-// before its first reply.
+// The states of 001's table 40, for both roles. A master mirrors the slave: the matching reply moves it. Starting is
+// a master's before its first reply.
 pub enum State {
     Close,
     Starting,
@@ -41,8 +41,8 @@ pub enum Timestamp {
     At(u64),
 }
 
-// What is remembered of timestamps; it survives restart. Sent: a master's last, a slave's last in S-Refresh. Accepted: a slave's
-// last in any frame, a master's last in S-Refresh.
+// What is remembered of timestamps; it survives restart. Sent: a master's last, a slave's last in S-Refresh.
+// Accepted: a slave's last in any frame, a master's last in S-Refresh.
 pub struct Timestamps {
     pub sent: Timestamp,
     pub accepted: Timestamp,

@@ -52,7 +52,8 @@ bit i v = eqb (v / 2 ^ i % 2) 1
 abbrev pub flag : Bool → ℕ → ℕ
 flag b n = cond b n 0
 
--- CTRL: Cmd, Ack (bit 23), Busy (22), Error (21), Offset op seq (20), Application (18), Sub CID; MO busy (19) and bit 17 are 0
+-- CTRL: Cmd, Ack (bit 23), Busy (22), Error (21), Offset op seq (20), Application (18), Sub CID; MO busy (19) and bit
+-- 17 are 0
 unfoldable pub controlOf : Fields → ℕ
 controlOf f =
     16777216 * codeOf (f .command)

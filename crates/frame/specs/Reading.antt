@@ -46,8 +46,8 @@ fieldsOf control cid time cc = record {
 unfoldable pub fieldsIn : List ℕ → Fields
 fieldsIn a = fieldsOf (wordAt a 0) (wordAt a 4) (wordAt a 8) (wordAt a 12)
 
--- the form rule on a SubPDU's CTRL, RSV and fields: CTRL is the writing of its fields (Cmd is listed, bits 19 and 17 are 0,
--- no Sub CID without its active bit), these have the form, and RSV is 0
+-- the form rule on a SubPDU's CTRL, RSV and fields: CTRL is the writing of its fields (Cmd is listed, bits 19 and 17
+-- are 0, no Sub CID without its active bit), these have the form, and RSV is 0
 abbrev pub isFormed : ℕ → ℕ → Fields → Bool
 isFormed control reserved f = eqb control (controlOf f) && (hasForm f && eqb reserved 0)
 

@@ -37,10 +37,13 @@ pub record RoundTrip : Type 0 where
   pub back : (s : List ℕ) (f : Fields) (start end : ℕ) → Bytes s → readingOf s ≡ Frame f start end
       → Writable f (slice start end s) × (frameBytes f (slice start end s) ≡ s)
   -- its body stands within the bytes
-  pub within : (s : List ℕ) (f : Fields) (start end : ℕ) → readingOf s ≡ Frame f start end → (start ≤ end) × (end ≤ length s)
+  pub within : (s : List ℕ) (f : Fields) (start end : ℕ)
+      → readingOf s ≡ Frame f start end → (start ≤ end) × (end ≤ length s)
   -- so no two writings are the same bytes
-  pub only : (f g : Fields) (b c : List ℕ) → Writable f b → Writable g c → frameBytes f b ≡ frameBytes g c → (f ≡ g) × (b ≡ c)
+  pub only : (f g : Fields) (b c : List ℕ) → Writable f b → Writable g c
+      → frameBytes f b ≡ frameBytes g c → (f ≡ g) × (b ≡ c)
   -- what write_frame wrote, read_frame reads back
-  pub written : (f : Fields) (body out out′ : List ℕ) (count : ℕ) → Typed f body → WriteSays f body out out′ count → 0 < count
+  pub written : (f : Fields) (body out out′ : List ℕ) (count : ℕ) → Typed f body
+      → WriteSays f body out out′ count → 0 < count
       → (readingOf (take count out′) ≡ Frame f 20 (20 + length body))
       × (slice 20 (20 + length body) out′ ≡ body)

@@ -39,7 +39,8 @@ fn put_head(out: &mut [u8], k: usize, control: u32, cid: u32, time: u32, cc: u32
 // Both SubPDUs over the front of out.
 fn put_copies(out: &mut [u8], control: u32, cid: u32, time: u32, cc: u32, body: &[u8])
     requires { ⌜ 48 + 2 * length (now body) ≤ length (now out) ⌝ }
-    ensures { λ _. ⌜ now (out .exit) ≡ put (now (out .entry)) 0 (twice (withCheckWord (headBytes control cid time cc (now (body .entry))))) ⌝ }
+    ensures { λ _. ⌜ now (out .exit)
+        ≡ put (now (out .entry)) 0 (twice (withCheckWord (headBytes control cid time cc (now (body .entry))))) ⌝ }
 {
     let n = 20 + body.len();
     put_head(out, 0, control, cid, time, cc, body);
@@ -49,8 +50,8 @@ fn put_copies(out: &mut [u8], control: u32, cid: u32, time: u32, cc: u32, body: 
     put_word(out, n + 4 + n, word);
 }
 
-// The frame of the fields and the body over the front of out, and its length. Where the fields cannot be written or out is
-// too short, nothing is written and the answer is 0.
+// The frame of the fields and the body over the front of out, and its length. Where the fields cannot be written or
+// out is too short, nothing is written and the answer is 0.
 pub fn write_frame(fields: Fields, body: &[u8], out: &mut [u8]) -> usize
     ensures { λ r. ⌜ WriteSays fields (now (body .entry)) (now (out .entry)) (now (out .exit)) r ⌝ }
 {

@@ -51,17 +51,19 @@ runOf sm ss c vs = afterAll c (begun sm ss) vs
 
 -- demand 3, for every list that keeps to what it runs over
 abbrev pub AgeTheorem : Type 0
-AgeTheorem = (sm ss : Settings) (c : Clocks) (vs : List Event) → Paired sm ss → runOf sm ss c vs .allowed ≡ true → Fresh sm ss (runOf sm ss c vs)
+AgeTheorem = (sm ss : Settings) (c : Clocks) (vs : List Event) → Paired sm ss → runOf sm ss c vs .allowed ≡ true
+    → Fresh sm ss (runOf sm ss c vs)
 
 -- an end has written no S-Refresh after a moment
 abbrev pub SilentSince : Bool → ℕ → Link → Type 0
 SilentSince slave last l =
-    (k : ℕ) → k < length (l .log) → entryAt (l .log) k .slave ≡ slave → is (entryAt (l .log) k .fields .command) K.Refresh ≡ true
-    → entryAt (l .log) k .moment ≤ last
+    (k : ℕ) → k < length (l .log) → entryAt (l .log) k .slave ≡ slave
+    → is (entryAt (l .log) k .fields .command) K.Refresh ≡ true → entryAt (l .log) k .moment ≤ last
 
 -- then every show at the other end that is not fail-safe comes within the bound after it
 abbrev pub Silence : Type 0
-Silence = (sm ss : Settings) (c : Clocks) (vs : List Event) (slave : Bool) (last : ℕ) → Paired sm ss → runOf sm ss c vs .allowed ≡ true
+Silence = (sm ss : Settings) (c : Clocks) (vs : List Event) (slave : Bool) (last : ℕ) → Paired sm ss
+    → runOf sm ss c vs .allowed ≡ true
     → SilentSince (not slave) last (runOf sm ss c vs)
     → (i : ℕ) → i < length (runOf sm ss c vs .shows) → showAt (runOf sm ss c vs .shows) i .slave ≡ slave
     → showAt (runOf sm ss c vs .shows) i .moment ≤ last + boundOf (cond slave ss sm)

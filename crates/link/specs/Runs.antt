@@ -1,4 +1,5 @@
--- Two endpoints of one CID over a list of calls (document 01, "What demand 3 runs over"), with frames as fields and bodies.
+-- Two endpoints of one CID over a list of calls (document 01, "What demand 3 runs over"), with frames as fields and
+-- bodies.
 use mathlib.Core.Bool.{Bool, true, false, _&&_, not, cond, Bool·beq}
 use mathlib.Core.List.{List, [], _∷_, _++_}
 use mathlib.Core.Option.{Option, some, none}

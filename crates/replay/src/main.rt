@@ -1,4 +1,5 @@
-// Replays a list of calls on one device: each line of standard input is a call, each line of standard output its answer.
+// Replays a list of calls on one device: each line of standard input is a call, each line of standard output its
+// answer.
 ghost use mathlib.Core.Path.{_≡_};
 ghost use lib.ListN.{length};
 ghost use Rattle.io.specs.Counts.{Counts};
@@ -10,8 +11,8 @@ use libc::STDIN_FILENO;
 use libc::STDOUT_FILENO;
 use text::Line;
 
-// The device; the length of the output that calls are lent; the place of the line in the input, counted from 1; how many of its
-// bytes have come; and whether to go on.
+// The device; the length of the output that calls are lent; the place of the line in the input, counted from 1; how
+// many of its bytes have come; and whether to go on.
 struct Replay {
     device: Device,
     room: usize,
@@ -301,7 +302,8 @@ fn read_some(r: Replay, line: &mut [u8]) -> Replay {
     take_bytes(r, &bytes[..n], line)
 }
 
-// A proved loop has to end, and nothing says that the input does: the turns count down from a number that no input uses up.
+// A proved loop has to end, and nothing says that the input does: the turns count down from a number that no input
+// uses up.
 fn main() {
     // one byte more than the longest line, so that a longer one is seen
     let mut line = [0u8; 4097];

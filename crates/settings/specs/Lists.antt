@@ -21,7 +21,8 @@ settingsAt ws i =
 
 unfoldable pub isConnectionAt : List ℕ → ℕ → Bool
 isConnectionAt ws i =
-    hasKinds (wordOf ws i 0) (wordOf ws i 1) (wordOf ws i 2) (wordOf ws i 3) (wordOf ws i 4) (wordOf ws i 5) (wordOf ws i 6)
+    hasKinds (wordOf ws i 0) (wordOf ws i 1) (wordOf ws i 2) (wordOf ws i 3) (wordOf ws i 4) (wordOf ws i 5)
+    (wordOf ws i 6)
     && hasRanges (restOf (wordOf ws i 0)) (restOf (wordOf ws i 1)) (restOf (wordOf ws i 2)) (restOf (wordOf ws i 3))
     (restOf (wordOf ws i 4)) (restOf (wordOf ws i 5))
 

@@ -23,10 +23,12 @@ isWords v = leb 1 v && leb v 25
 abbrev pub hasKinds : ℕ → ℕ → ℕ → ℕ → ℕ → ℕ → ℕ → Bool
 hasKinds a b c d e f g =
     eqb (kindOf a) 1
-    && (eqb (kindOf b) 2 && (eqb (kindOf c) 3 && (eqb (kindOf d) 4 && (eqb (kindOf e) 5 && (eqb (kindOf f) 6 && eqb (kindOf g) 7)))))
+    && (eqb (kindOf b) 2
+    && (eqb (kindOf c) 3
+    && (eqb (kindOf d) 4 && (eqb (kindOf e) 5 && (eqb (kindOf f) 6 && eqb (kindOf g) 7)))))
 
--- what the words hold below their kinds: addresses a and b of 16 bits that differ; c the role (bit 10), M (bits 9 to 5) and S (4 to 0);
--- I, R and A in ticks
+-- what the words hold below their kinds: addresses a and b of 16 bits that differ; c the role (bit 10), M (bits 9 to
+-- 5) and S (4 to 0); I, R and A in ticks
 abbrev pub hasRanges : ℕ → ℕ → ℕ → ℕ → ℕ → ℕ → Bool
 hasRanges a b c i r g =
     ltb a 65536

@@ -1,5 +1,5 @@
-// The settings list: seven words of 32 bits a connection, the top four bits of each its kind. Which lists are right, and the
-// settings of each connection.
+// The settings list: seven words of 32 bits a connection, the top four bits of each its kind. Which lists are right,
+// and the settings of each connection.
 ghost use mathlib.Core.Path.{_≡_};
 ghost use lib.ListN.{getD};
 ghost use Prim.Native.Nat.{_<_};

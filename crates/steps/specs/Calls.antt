@@ -16,9 +16,10 @@ use Rattle.endpoint.specs.declared.Reason.the-variants as R
 use Rattle.endpoint.specs.declared.Answer.{Answer}
 use Rattle.endpoint.specs.declared.Answer.the-variants.{Done, Dropped}
 use Rattle.endpoint.specs.declared.Faults.{Faults}
-use Rattle.endpoint.specs.Answers.{firstOf, isDropped}
+use Rattle.endpoint.specs.Answers.{callFaults, firstOf, isDropped}
 use Rattle.endpoint.specs.Table.{isState, isSetup, requestOf}
-use Rattle.endpoint.specs.Time.{isAbove, noValue}
+use Rattle.endpoint.specs.Time.{isAbove, noValue, endedOf}
+use Rattle.endpoint.specs.Updates.{inState, timedFrom, withTimestamps, withPending, holding}
 use Rattle.steps.specs.Frames.{Written, nothing, written, setupData, sendWidth, showWidth, timeOf, requestFields}
 use Rattle.steps.specs.Frames.{refreshFields, disconnectFields}
 
@@ -48,14 +49,7 @@ freshOf s = record {
 
 -- ---- start: a master's, in Close
 abbrev pub startedOf : Endpoint → ℕ → Endpoint
-startedOf e t = record {
-  settings = e .settings;
-  state = Starting;
-  since = t;
-  timestamps = e .timestamps;
-  setup = record { pending = Nothing; measured = e .setup .measured; offset = e .setup .offset };
-  value = noValue;
-}
+startedOf e t = inState Starting (timedFrom t (withPending Nothing (holding noValue e)))
 
 abbrev pub startOf : Endpoint → ℕ → Outcome
 startOf e t =
@@ -64,14 +58,7 @@ startOf e t =
 
 -- ---- restart: from Terminate; timestamps are remembered
 abbrev pub restartedOf : Endpoint → Endpoint
-restartedOf e = record {
-  settings = e .settings;
-  state = Close;
-  since = e .since;
-  timestamps = e .timestamps;
-  setup = e .setup;
-  value = noValue;
-}
+restartedOf e = inState Close (holding noValue e)
 
 abbrev pub restartOf : Endpoint → Outcome
 restartOf e = cond (isState (e .state) Terminate) (outcome Done (restartedOf e) nothing) (dropped e (Dropped R.Turn))
@@ -85,39 +72,20 @@ abbrev pub mayRequest : Endpoint → Bool
 mayRequest e = not (e .settings .slave) && (isSetup (e .state) && isNothing (e .setup .pending))
 
 abbrev pub sendFaults : Endpoint → ℕ → ℕ → Faults
-sendFaults e t width = record {
-  turn = not (isState (e .state) Refresh || mayRequest e);
-  width = isState (e .state) Refresh && not (eqb width (sendWidth (e .settings)));
-  repeat = false;
-  ahead = false;
-  late = false;
-  unequal = false;
-  soon = not (isAbove (e .timestamps .sent) (timeOf e t));
-}
+sendFaults e t width =
+    callFaults (not (isState (e .state) Refresh || mayRequest e))
+    (isState (e .state) Refresh && not (eqb width (sendWidth (e .settings))))
+    (not (isAbove (e .timestamps .sent) (timeOf e t)))
 
 -- the timestamp is remembered as the last sent
 abbrev pub stampedOf : Endpoint → ℕ → Timestamps
 stampedOf e stamp = record { sent = At stamp; accepted = e .timestamps .accepted }
 
 abbrev pub requestedOf : Endpoint → ℕ → Endpoint
-requestedOf e t = record {
-  settings = e .settings;
-  state = e .state;
-  since = t;
-  timestamps = stampedOf e (timeOf e t);
-  setup = record { pending = Asked (timeOf e t); measured = e .setup .measured; offset = e .setup .offset };
-  value = e .value;
-}
+requestedOf e t = timedFrom t (withTimestamps (stampedOf e (timeOf e t)) (withPending (Asked (timeOf e t)) e))
 
 abbrev pub refreshSentOf : Endpoint → ℕ → Endpoint
-refreshSentOf e t = record {
-  settings = e .settings;
-  state = e .state;
-  since = e .since;
-  timestamps = stampedOf e (timeOf e t);
-  setup = e .setup;
-  value = e .value;
-}
+refreshSentOf e t = withTimestamps (stampedOf e (timeOf e t)) e
 
 -- what a send that is done comes to
 abbrev pub sentOf : Endpoint → ℕ → List ℕ → Outcome
@@ -132,25 +100,13 @@ sendOf e t value =
 
 -- ---- stop: from any state but Close and Terminate; a master's writes S-Disconnect
 abbrev pub stopFaults : Endpoint → ℕ → Faults
-stopFaults e t = record {
-  turn = isState (e .state) Close || isState (e .state) Terminate;
-  width = false;
-  repeat = false;
-  ahead = false;
-  late = false;
-  unequal = false;
-  soon = not (e .settings .slave) && not (isAbove (e .timestamps .sent) (timeOf e t));
-}
+stopFaults e t =
+    callFaults (isState (e .state) Close || isState (e .state) Terminate) false
+    (not (e .settings .slave) && not (isAbove (e .timestamps .sent) (timeOf e t)))
 
 abbrev pub stoppedOf : Endpoint → ℕ → Endpoint
-stoppedOf e t = record {
-  settings = e .settings;
-  state = Terminate;
-  since = e .since;
-  timestamps = cond (e .settings .slave) (e .timestamps) (stampedOf e (timeOf e t));
-  setup = e .setup;
-  value = noValue;
-}
+stoppedOf e t =
+    withTimestamps (cond (e .settings .slave) (e .timestamps) (stampedOf e (timeOf e t))) (endedOf e)
 
 abbrev pub disconnectOf : Endpoint → ℕ → Written
 disconnectOf e t = cond (e .settings .slave) nothing

@@ -19,9 +19,10 @@ use Rattle.endpoint.specs.declared.Reason.the-variants as R
 use Rattle.endpoint.specs.declared.Answer.{Answer}
 use Rattle.endpoint.specs.declared.Answer.the-variants.{Done, Dropped, Ended}
 use Rattle.endpoint.specs.declared.Faults.{Faults}
-use Rattle.endpoint.specs.Answers.{firstOf, isDropped, isEnded}
+use Rattle.endpoint.specs.Answers.{setupFaults, firstOf, isDropped, isEnded}
 use Rattle.endpoint.specs.Table.{isState, isSetup, nextOf, isNo, stateTo, requestOf}
 use Rattle.endpoint.specs.Time.{minus, isAbove, isTooFarAhead, allowanceOf, isTooLate, offsetFrom, noValue, endedOf}
+use Rattle.endpoint.specs.Updates.{inState, timedFrom, withTimestamps, withSetup, holding}
 use Rattle.steps.specs.Frames.{Written, nothing, written, setupData, showWidth, timeOf, replyFields}
 use Rattle.steps.specs.Calls.{Outcome, outcome, dropped}
 
@@ -56,14 +57,8 @@ abbrev pub paddedOf : List ℕ → List ℕ
 paddedOf body = take 100 body ++ drop (length body) (replicate 100 0)
 
 abbrev pub refreshedOf : Endpoint → ℕ → ℕ → List ℕ → Endpoint
-refreshedOf e t stamp bytes = record {
-  settings = e .settings;
-  state = e .state;
-  since = t;
-  timestamps = acceptedOf e stamp;
-  setup = e .setup;
-  value = record { taken = true; bytes = bytes };
-}
+refreshedOf e t stamp bytes =
+    timedFrom t (withTimestamps (acceptedOf e stamp) (holding (record { taken = true; bytes = bytes }) e))
 
 abbrev pub takeRefresh : Endpoint → ℕ → ℕ → List ℕ → Outcome
 takeRefresh e t stamp body =
@@ -72,26 +67,15 @@ takeRefresh e t stamp body =
 
 -- ---- a request at a slave
 abbrev pub requestFaults : Endpoint → Fields → List ℕ → Faults
-requestFaults e f body = record {
-  turn = isNo (nextOf (f .command) (e .state));
-  width = not (eqb (length body) (length (setupData (e .settings) (f .command))));
-  repeat = not (isAbove (e .timestamps .accepted) (f .timestamp));
-  ahead = false;
-  late = false;
-  unequal = not (is (f .command) K.Disconnect) && not (same body (setupData (e .settings) (f .command)));
-  soon = false;
-}
+requestFaults e f body =
+    setupFaults (isNo (nextOf (f .command) (e .state)))
+    (not (eqb (length body) (length (setupData (e .settings) (f .command)))))
+    (not (isAbove (e .timestamps .accepted) (f .timestamp)))
+    (not (is (f .command) K.Disconnect) && not (same body (setupData (e .settings) (f .command))))
 
 -- ended, and the frame's timestamp counts as accepted
 abbrev pub endedBy : Endpoint → ℕ → Endpoint
-endedBy e stamp = record {
-  settings = e .settings;
-  state = endedOf e .state;
-  since = e .since;
-  timestamps = acceptedOf e stamp;
-  setup = e .setup;
-  value = noValue;
-}
+endedBy e stamp = withTimestamps (acceptedOf e stamp) (endedOf e)
 
 -- s2, or m2, is the clock at S-RefreshReady's reply
 abbrev pub measuredBy : Command → ℕ → ℕ → ℕ
@@ -104,18 +88,10 @@ offsetBy e f =
 
 -- the next state
 abbrev pub advancedOf : Endpoint → ℕ → Fields → Endpoint
-advancedOf e t f = record {
-  settings = e .settings;
-  state = stateTo (nextOf (f .command) (e .state)) (e .state);
-  since = t;
-  timestamps = acceptedOf e (f .timestamp);
-  setup = record {
-    pending = e .setup .pending;
-    measured = measuredBy (f .command) t (e .setup .measured);
-    offset = offsetBy e f;
-  };
-  value = noValue;
-}
+advancedOf e t f =
+    inState (stateTo (nextOf (f .command) (e .state)) (e .state))
+    (timedFrom t (withTimestamps (acceptedOf e (f .timestamp))
+    (withSetup (e .setup .pending) (measuredBy (f .command) t (e .setup .measured)) (offsetBy e f) (holding noValue e))))
 
 -- what a request that is done leaves
 abbrev pub takenOf : Endpoint → ℕ → Fields → Endpoint
@@ -141,30 +117,19 @@ answersTo Nothing stamp = false
 answersTo (Asked asked) stamp = eqb asked stamp
 
 abbrev pub replyFaults : Endpoint → Fields → List ℕ → Faults
-replyFaults e f body = record {
-  turn = not (isSetup (e .state) && (f .ack && (isAsked (e .setup .pending) && is (f .command) (requestOf (e .state)))));
-  width = not (eqb (length body) (length (setupData (e .settings) (requestOf (e .state)))));
-  repeat = not (answersTo (e .setup .pending) (f .timestamp));
-  ahead = false;
-  late = false;
-  unequal = f .error || not (same body (setupData (e .settings) (requestOf (e .state))));
-  soon = false;
-}
+replyFaults e f body =
+    setupFaults
+    (not (isSetup (e .state) && (f .ack && (isAsked (e .setup .pending) && is (f .command) (requestOf (e .state))))))
+    (not (eqb (length body) (length (setupData (e .settings) (requestOf (e .state))))))
+    (not (answersTo (e .setup .pending) (f .timestamp)))
+    (f .error || not (same body (setupData (e .settings) (requestOf (e .state)))))
 
 -- the next state
 abbrev pub confirmedOf : Endpoint → ℕ → Endpoint
-confirmedOf e t = record {
-  settings = e .settings;
-  state = stateTo (nextOf (requestOf (e .state)) (e .state)) (e .state);
-  since = t;
-  timestamps = e .timestamps;
-  setup = record {
-    pending = Nothing;
-    measured = measuredBy (requestOf (e .state)) t (e .setup .measured);
-    offset = e .setup .offset;
-  };
-  value = noValue;
-}
+confirmedOf e t =
+    inState (stateTo (nextOf (requestOf (e .state)) (e .state)) (e .state))
+    (timedFrom t (withSetup Nothing (measuredBy (requestOf (e .state)) t (e .setup .measured)) (e .setup .offset)
+    (holding noValue e)))
 
 abbrev pub takeReply : Endpoint → ℕ → Fields → List ℕ → Outcome
 takeReply e t f body =

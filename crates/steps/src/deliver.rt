@@ -366,7 +366,8 @@ fn take_reply(e: Endpoint, clock: u64, f: Fields, body: &[u8]) -> Stepped
 
 // A frame of this connection. A slave's request writes its reply.
 pub fn deliver(e: Endpoint, clock: u64, f: Fields, body: &[u8], out: &mut [u8]) -> Stepped
-    ensures { λ r. ⌜ StepSays (withRoom (length (now (out .entry))) e (deliverOf e clock f (now (body .entry)))) (now (out .entry)) (now (out .exit)) r ⌝ }
+    ensures { λ r. ⌜ StepSays (withRoom (length (now (out .entry))) e (deliverOf e clock f (now (body .entry))))
+        (now (out .entry)) (now (out .exit)) r ⌝ }
 {
     if out.len() < 248 {
         return stepped(Answer::Dropped(Reason::Buffer), e, 0);

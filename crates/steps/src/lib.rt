@@ -1,5 +1,5 @@
-// The calls on one endpoint, by value: what it sends, takes and shows. They know fields and no offsets of bytes, and nothing of
-// the table that holds the endpoint.
+// The calls on one endpoint, by value: what it sends, takes and shows. They know fields and no offsets of bytes, and
+// nothing of the table that holds the endpoint.
 
 pub mod deliver;
 mod requests;

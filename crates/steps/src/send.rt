@@ -111,7 +111,8 @@ fn refresh_sent(e: Endpoint, clock: u64) -> Endpoint
 
 // The next request, whatever value is lent; in Refresh the value.
 pub fn send(e: Endpoint, clock: u64, value: &[u8], out: &mut [u8]) -> Stepped
-    ensures { λ r. ⌜ StepSays (withRoom (length (now (out .entry))) e (sendOf e clock (now (value .entry)))) (now (out .entry)) (now (out .exit)) r ⌝ }
+    ensures { λ r. ⌜ StepSays (withRoom (length (now (out .entry))) e (sendOf e clock (now (value .entry))))
+        (now (out .entry)) (now (out .exit)) r ⌝ }
 {
     if out.len() < 248 {
         return stepped(Answer::Dropped(Reason::Buffer), e, 0);

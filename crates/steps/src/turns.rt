@@ -174,7 +174,8 @@ fn stopped(e: Endpoint, clock: u64) -> Endpoint
 
 // Terminate, from any state but Close and Terminate. A master's writes S-Disconnect.
 pub fn stop(e: Endpoint, clock: u64, out: &mut [u8]) -> Stepped
-    ensures { λ r. ⌜ StepSays (withRoom (length (now (out .entry))) e (stopOf e clock)) (now (out .entry)) (now (out .exit)) r ⌝ }
+    ensures { λ r. ⌜ StepSays (withRoom (length (now (out .entry))) e (stopOf e clock))
+        (now (out .entry)) (now (out .exit)) r ⌝ }
 {
     if out.len() < 248 {
         return stepped(Answer::Dropped(Reason::Buffer), e, 0);

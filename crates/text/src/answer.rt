@@ -50,7 +50,8 @@ fn put_mark(out: &mut [u8], k: usize, mark: bool) -> usize
 // The bytes at k, and the place after them.
 fn put_bytes(out: &mut [u8], k: usize, bytes: &[u8]) -> usize
     requires { ⌜ k + (1 + 2 * length (now bytes)) ≤ length (now out) ⌝ }
-    ensures { λ r. ⌜ (Puts (now (out .entry)) k (hexText (now (bytes .entry))) (now (out .exit)) r) × (r ≤ k + (1 + 2 * length (now (bytes .entry)))) ⌝ }
+    ensures { λ r. ⌜ (Puts (now (out .entry)) k (hexText (now (bytes .entry))) (now (out .exit)) r)
+        × (r ≤ k + (1 + 2 * length (now (bytes .entry)))) ⌝ }
 {
     let n = bytes.len();
     if n == 0 {
@@ -88,7 +89,8 @@ fn put_line(
     bytes: &[u8],
 ) -> usize
     requires { ⌜ 80 + 2 * length (now bytes) ≤ length (now out) ⌝ }
-    ensures { λ r. ⌜ (Puts (now (out .entry)) 0 (answerText number entry count mark dirty (now (bytes .entry))) (now (out .exit)) r)
+    ensures { λ r. ⌜ (Puts (now (out .entry)) 0 (answerText number entry count mark dirty (now (bytes .entry)))
+        (now (out .exit)) r)
         × (r ≤ 80 + 2 * length (now (bytes .entry))) ⌝ }
 {
     let a = put_number(out, 0, number as u64);
@@ -99,8 +101,8 @@ fn put_line(
     put_end(out, e, dirty)
 }
 
-// The answer to a call over the front of out, and its length. Where out is shorter than 80 bytes and two for each byte written,
-// nothing is put and the count is 0.
+// The answer to a call over the front of out, and its length. Where out is shorter than 80 bytes and two for each
+// byte written, nothing is put and the count is 0.
 pub fn put_answer(
     out: &mut [u8],
     number: u8,
@@ -110,8 +112,8 @@ pub fn put_answer(
     dirty: bool,
     written: &[u8],
 ) -> usize
-    ensures { λ r. ⌜ Written (80 + 2 * length (now (written .entry))) (answerText number entry count mark dirty (now (written .entry)))
-        (now (out .entry)) (now (out .exit)) r ⌝ }
+    ensures { λ r. ⌜ Written (80 + 2 * length (now (written .entry)))
+        (answerText number entry count mark dirty (now (written .entry))) (now (out .entry)) (now (out .exit)) r ⌝ }
 {
     let n = out.len();
     if n < 80 {
@@ -123,8 +125,8 @@ pub fn put_answer(
     put_line(out, number, entry, count, mark, dirty, written)
 }
 
-// The answer to the frame check alone over the front of out, and its length. Where out is shorter than 24 bytes, nothing is put
-// and the count is 0.
+// The answer to the frame check alone over the front of out, and its length. Where out is shorter than 24 bytes,
+// nothing is put and the count is 0.
 pub fn put_check(out: &mut [u8], number: u8) -> usize
     ensures { λ r. ⌜ Written 24 (checkText number) (now (out .entry)) (now (out .exit)) r ⌝ }
 {
@@ -136,8 +138,8 @@ pub fn put_check(out: &mut [u8], number: u8) -> usize
     e + 1
 }
 
-// The answer to the n-th line where it is no call, over the front of out, and its length. Where out is shorter than 24 bytes,
-// nothing is put and the count is 0.
+// The answer to the n-th line where it is no call, over the front of out, and its length. Where out is shorter than
+// 24 bytes, nothing is put and the count is 0.
 pub fn put_wrong(out: &mut [u8], n: u64) -> usize
     ensures { λ r. ⌜ Written 24 (wrongText n) (now (out .entry)) (now (out .exit)) r ⌝ }
 {

@@ -96,10 +96,11 @@ fn word_at(s: &[u8], k: usize) -> u32
     )
 }
 
-// The bytes whose digits stand from `start` to the end of a line, over the front of out, and their count. Where out is too
-// short, nothing is written and the count is 0.
+// The bytes whose digits stand from `start` to the end of a line, over the front of out, and their count. Where out
+// is too short, nothing is written and the count is 0.
 pub fn bytes_from(line: &[u8], start: usize, out: &mut [u8]) -> usize
-    ensures { λ r. ⌜ Written (byteCount (now (line .entry)) start) (bytesFrom (now (line .entry)) start) (now (out .entry)) (now (out .exit)) r ⌝ }
+    ensures { λ r. ⌜ Written (byteCount (now (line .entry)) start) (bytesFrom (now (line .entry)) start)
+        (now (out .entry)) (now (out .exit)) r ⌝ }
 {
     let n = line.len();
     if n < start {
@@ -125,10 +126,11 @@ fn put_bytes(line: &[u8], start: usize, n: usize, out: &mut [u8])
     }
 }
 
-// The settings words of a line, over the front of out, and their count. Where out is too short, nothing is written and the
-// count is 0.
+// The settings words of a line, over the front of out, and their count. Where out is too short, nothing is written
+// and the count is 0.
 pub fn settings_in(line: &[u8], out: &mut [u32]) -> usize
-    ensures { λ r. ⌜ Written (settingCount (now (line .entry))) (settingsIn (now (line .entry))) (now (out .entry)) (now (out .exit)) r ⌝ }
+    ensures { λ r. ⌜ Written (settingCount (now (line .entry))) (settingsIn (now (line .entry)))
+        (now (out .entry)) (now (out .exit)) r ⌝ }
 {
     let n = line.len();
     if n < 4 {

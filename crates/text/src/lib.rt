@@ -1,4 +1,5 @@
-// Call lists as text: a line read as a call, and the text of an answer. What is written stands at the front of lent memory.
+// Call lists as text: a line read as a call, and the text of an answer. What is written stands at the front of lent
+// memory.
 
 pub mod answer;
 pub mod hex;

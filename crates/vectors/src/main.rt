@@ -1,4 +1,5 @@
-// Runs RFC 3720's vectors (appendix B.4) and document 01's cases that are not proved; what it writes is held to the file stdout.
+// Runs RFC 3720's vectors (appendix B.4) and document 01's cases that are not proved; what it writes is held to the
+// file stdout.
 
 mod readying;
 

@@ -1,4 +1,5 @@
-// Document 01's case "Readying", run on two devices: S-RefreshReady sent at 1,000, s2 = 6,010, m2 = 1,030, S-RefreshGO at 1,040.
+// Document 01's case "Readying", run on two devices: S-RefreshReady sent at 1,000, s2 = 6,010, m2 = 1,030,
+// S-RefreshGO at 1,040.
 use device::Called;
 use device::Device;
 
@@ -31,7 +32,8 @@ fn deliver_front(device: Device, clock: u64, bytes: &[u8], n: usize, out: &mut [
     device::deliver::deliver(device, clock, bytes, out)
 }
 
-// The master's next request, written to out at sent, taken by the slave at taken, and its reply by the master at replied.
+// The master's next request, written to out at sent, taken by the slave at taken, and its reply by the master at
+// replied.
 fn exchange(pair: Pair, sent: u64, taken: u64, replied: u64, out: &mut [u8]) -> Pair {
     let mut reply = [0u8; 248];
     let mut none = [0u8; 248];
