@@ -2,7 +2,6 @@
 use mathlib.Core.Path.{_≡_, refl, sym, ap, subst, _∙_}
 use mathlib.Core.Bool.{Bool, true, false, _&&_, _||_, not, cond}
 use mathlib.Core.List.{List, [], _∷_}
-use mathlib.Core.Option.{none}
 use Prim.Native.Nat.{ℕ}
 use lib.Dec.{eqb, leb}
 use lib.ListN.{length}
@@ -26,28 +25,29 @@ use Rattle.endpoint.specs.declared.Answer.{Answer}
 use Rattle.endpoint.specs.declared.Answer.the-variants.{Dropped}
 use Rattle.endpoint.specs.Answers.{isDone}
 use Rattle.endpoint.specs.Time.{isExpired, afterTick}
-use Rattle.steps.specs.Frames.{Written, nothing, bytesOf}
-use Rattle.steps.specs.Calls.{Outcome, startOf, restartOf, sendOf, stopOf, isFailSafe, shownOf}
-use Rattle.steps.specs.Deliveries.{deliverOf}
-use Rattle.steps.specs.Laws.{Carries, IsTyped}
-use Rattle.steps.proofs.CallLaws.{step-laws}
+use Rattle.steps.specs.Frames.{Written, nothing}
+use Rattle.steps.specs.Calls.{Outcome, isFailSafe, shownOf}
+use Rattle.steps.specs.Steps as S
+use Rattle.steps.specs.Steps.{Act, start, stop, restart}
+use Rattle.steps.proofs.Dispatch.{cond-true, cond-false}
 use Rattle.steps.proofs.Keeps.{bcase}
 use Rattle.device.specs.declared.Device.{Device}
 use Rattle.device.specs.declared.Entry.{Entry}
 use Rattle.device.specs.declared.Entry.the-variants.{Absent, At}
 use Rattle.device.specs.Tables.{endpointAt, entryOf}
 use Rattle.device.specs.Clock.{isReading}
-use Rattle.device.specs.Calls.{Result, admit, refusedOf, isShort, beforeShow, shownIn, reasonOf, byEntry, byReading}
-use Rattle.device.proofs.OnEntry.{start-quiet, restart-quiet}
+use Rattle.device.specs.Calls.{Result, admit, refusedOf, onEntry, isShort, beforeShow, shownIn, reasonOf, byEntry}
+use Rattle.device.specs.Calls.{byReading}
 use Rattle.link.specs.Runs as L
-use Rattle.devices.specs.Runs.{Call, start, send, deliver, stop, restart, show, callIn, isOf, isRefreshIn}
-use Rattle.devices.specs.Runs.{isFrameOf, isRefreshOf, Sent, logged, lastOf, mayDeliver, handsBytes, isAt}
-use Rattle.devices.specs.Runs.{showsValue, shownBy}
+use Rattle.devices.specs.Runs.{Call, act, send, deliver, show, actIn, callIn, isOf, isRefreshIn, isFrameOf}
+use Rattle.devices.specs.Runs.{isRefreshOf, frameBy, lastOf, mayDeliver, handsBytes, tookBy, isAt, showsValue}
+use Rattle.devices.specs.Runs.{shownBy}
 use Rattle.devices.proofs.Tables.{Like, like-tick, like-at, ticked-at, at, entry-like, entry-found}
 use Rattle.devices.proofs.Loaded.{Table}
 use Rattle.devices.proofs.Logs.{bytes-of, toLog, AllGood, no-more, last-of}
 use Rattle.devices.proofs.Idle.{call-expired, call-timely, tick-expired, tick-timely}
-use Rattle.devices.proofs.OneCall.{empty, Matches, idle, clocked-at, clocked-like, entry-call}
+use Rattle.devices.proofs.OneCall.{empty, not-logged, Matches, idle, clocked-at, clocked-like, EntryCall}
+use Rattle.devices.proofs.OneCall.{entry-call}
 
 and-false : (b : Bool) → (b && false) ≡ false
 and-false true = refl
@@ -63,234 +63,225 @@ not-done last t short r = go (isReading last t) short
     go false s = refl
 
 -- a show changes the endpoint by the clock step only
-show-call : (e : Endpoint) (t : ℕ) → (L.callOf e t L.show .endpoint ≡ afterTick e t) × (L.callOf e t L.show .writes ≡ nothing)
+show-call : (e : Endpoint) (t : ℕ)
+    → (L.callOf e t S.show .endpoint ≡ afterTick e t) × (L.callOf e t S.show .writes ≡ nothing)
 show-call e t =
     bcase (isExpired e t)
     (λ x. (
-      ap (λ (o : Outcome). o .endpoint) (call-expired e t L.show x) ∙ sym (tick-expired e t x),
-      ap (λ (o : Outcome). o .writes) (call-expired e t L.show x),
+      ap (λ (o : Outcome). o .endpoint) (call-expired e t S.show x) ∙ sym (tick-expired e t x),
+      ap (λ (o : Outcome). o .writes) (call-expired e t S.show x),
     ))
     (λ x. (
-      ap (λ (o : Outcome). o .endpoint) (call-timely e t L.show x) ∙ sym (tick-timely e t x),
-      ap (λ (o : Outcome). o .writes) (call-timely e t L.show x),
+      ap (λ (o : Outcome). o .endpoint) (call-timely e t S.show x) ∙ sym (tick-timely e t x),
+      ap (λ (o : Outcome). o .writes) (call-timely e t S.show x),
     ))
 
 flip : (b : Bool) (x : L.Show) → cond {A = List L.Show} (not b) (x ∷ []) [] ≡ cond b [] (x ∷ [])
 flip true x = refl
 flip false x = refl
 
-module _ (cid : ℕ) (slave : Bool) (m : ℕ) (d₀ : Device) (n : ℕ) (T : Table d₀ cid n) (d : Device) (same : Like d d₀) (t room : ℕ)
-    (reading : isReading (d .last) t ≡ true) (log : List L.Entry) (good : AllGood cid log) (took : ℕ) where
-  -- the CID's entry, and its CID
-  the-entry : entryOf cid (d .count) (d .endpoints) ≡ At n
-  the-entry = entry-like same cid ∙ T .entry
+-- whether an output that is too short was lent: only a stop is lent one
+lends : ℕ → Act → Bool
+lends room start = false
+lends room stop = isShort room
+lends room restart = false
 
-  its-cid : endpointAt (d .endpoints) n .settings .connection ≡ cid
-  its-cid = ap (λ (s : Settings). s .connection) (like-at same n) ∙ T .has
+act-in : (d : Device) (t room : ℕ) (a : Act) (k : ℕ)
+    → actIn d t room a k ≡ onEntry (λ e. S.actOf e t a) d t (lends room a) k
+unfolding lends
+act-in d t room start k = refl
+act-in d t room stop k = refl
+act-in d t room restart k = refl
 
-  starting : (k : ℕ) → Matches cid slave m d n t room log took (start k)
-  unfolding bytesOf
-  starting k = entry-call cid slave m d₀ n T d same t room reading log took (start k) (λ e. startOf e t) L.start false k (record {
-    is = refl;
-    acts = λ x. refl;
-    keeps = λ x. step-laws .start-keeps x t;
-    carries = λ x. subst (Carries x) (sym (start-quiet x t)) tt;
-    typed = λ x f. subst IsTyped (sym (start-quiet x t)) tt;
-    lent = refl;
-    frames = λ x. sym (ap bytesOf (start-quiet x t));
-    none = refl;
-    no-show = λ r. refl;
-    no-show-by = λ x. refl;
-    took-none = refl;
-    took-other = λ ne b. refl;
-    took-own = λ q a. refl;
-    may = λ q. refl;
-  })
+module _ (cid : ℕ) (slave : Bool) (m : ℕ) (d₀ : Device) (n : ℕ) (T : Table d₀ cid n) (d : Device) (same : Like d d₀)
+    (t room : ℕ) (reading : isReading (d .last) t ≡ true) (log : List L.Entry) (good : AllGood cid log) (took : ℕ)
+  where
+    abbrev Match : Call → Type 0
+    Match call = Matches cid slave m d n t room log took call
 
-  restarting : (k : ℕ) → Matches cid slave m d n t room log took (restart k)
-  unfolding bytesOf
-  restarting k = entry-call cid slave m d₀ n T d same t room reading log took (restart k) (λ e. restartOf e) L.restart false k (record {
-    is = refl;
-    acts = λ x. refl;
-    keeps = step-laws .restart-keeps;
-    carries = λ x. subst (Carries x) (sym (restart-quiet x)) tt;
-    typed = λ x f. subst IsTyped (sym (restart-quiet x)) tt;
-    lent = refl;
-    frames = λ x. sym (ap bytesOf (restart-quiet x));
-    none = refl;
-    no-show = λ r. refl;
-    no-show-by = λ x. refl;
-    took-none = refl;
-    took-other = λ ne b. refl;
-    took-own = λ q a. refl;
-    may = λ q. refl;
-  })
+    -- the laws of one call, for this CID, device and log
+    on-entry : (call : Call) (by : S.Call) (short : Bool) (k : ℕ)
+        → EntryCall cid slave m d₀ n T d same t room reading log took call by k short → Match call
+    on-entry = entry-call cid slave m d₀ n T d same t room reading log took
 
-  sending : (k : ℕ) (value : List ℕ) → handsBytes (send k value) ≡ true → Matches cid slave m d n t room log took (send k value)
-  sending k value h = entry-call cid slave m d₀ n T d same t room reading log took (send k value) (λ e. sendOf e t value) (L.send value) (isShort room) k (record {
-    is = refl;
-    acts = λ x. refl;
-    keeps = λ x. step-laws .send-keeps x t value;
-    carries = λ x. step-laws .send-carries x t value;
-    typed = λ x f. step-laws .send-typed x t value f (bytes-of value h);
-    lent = refl;
-    frames = λ x. refl;
-    none = refl;
-    no-show = λ r. refl;
-    no-show-by = λ x. refl;
-    took-none = refl;
-    took-other = λ ne b. refl;
-    took-own = λ q a. refl;
-    may = λ q. refl;
-  })
+    idles : (call : Call)
+        → endpointAt (callIn d t room call .device .endpoints) n ≡ afterTick (endpointAt (d .endpoints) n) t
+        → isFrameOf cid (frameBy call (callIn d t room call .writes)) ≡ false
+        → showsValue cid d call (callIn d t room call) ≡ false
+        → tookBy cid (toLog log) call (isDone (callIn d t room call .answer)) took ≡ took
+        → Like (callIn d t room call .device) d → Match call
+    idles = idle cid slave m d₀ n T d same t room reading log took
 
-  stopping : (k : ℕ) → Matches cid slave m d n t room log took (stop k)
-  stopping k = entry-call cid slave m d₀ n T d same t room reading log took (stop k) (λ e. stopOf e t) L.stop (isShort room) k (record {
-    is = refl;
-    acts = λ x. refl;
-    keeps = λ x. step-laws .stop-keeps x t;
-    carries = λ x. step-laws .stop-carries x t;
-    typed = λ x f. step-laws .stop-typed x t f;
-    lent = refl;
-    frames = λ x. refl;
-    none = refl;
-    no-show = λ r. refl;
-    no-show-by = λ x. refl;
-    took-none = refl;
-    took-other = λ ne b. refl;
-    took-own = λ q a. refl;
-    may = λ q. refl;
-  })
+    -- a call that is refused by number 1, 2, 3 or a reader takes the clock step on the entry
+    refused-at : (call : Call) (a : Answer) (k : ℕ) → callIn d t room call ≡ refusedOf a t k d
+        → endpointAt (callIn d t room call .device .endpoints) n ≡ afterTick (endpointAt (d .endpoints) n) t
+    refused-at call a k q = ap (λ (r : Result). endpointAt (r .device .endpoints) n) q
+        ∙ clocked-at cid slave m d₀ n T d same t room reading log took
 
-  -- ---- show
-  showing-own : isDone (beforeShow d t (isShort room) n) ≡ true → Matches cid slave m d n t room log took (show n)
-  unfolding toLog
-  showing-own h =
-      let e = endpointAt (d .endpoints) n in
-      let x = afterTick e t in
-      let q : callIn d t room (show n) ≡ shownIn x t n d =
-      ap (λ (b : Bool). cond b (shownIn x t n d) (refusedOf (beforeShow d t (isShort room) n) t n d)) h in
-      let c = show-call e t in
-      let v : showsValue cid d (show n) (shownIn x t n d) ≡ not (isFailSafe x) =
-      ap (λ (b : Bool). b && (true && not (isFailSafe x))) (ap (λ (y : Entry). isAt y n) the-entry ∙ eq-eqb n n refl) in
-      record {
-        by = L.show;
-        endpoint = ap (λ (r : Result). endpointAt (r .device .endpoints) n) q ∙ ticked-at d t n ∙ sym (c .0);
-        logs = ap (λ (b : Bool). cond {A = List Sent} b (record { slave = slave; moment = m; bytes = []; lent = none } ∷ []) []) (empty cid) ∙ sym (ap (λ (w : Written). toLog (L.logged slave m L.show w)) (c .1));
-        good = subst (λ (w : Written). AllGood cid (L.logged slave m L.show w)) (sym (c .1)) no-more;
-        shows = ap (shownBy cid slave d m took (length log) (show n)) q
-            ∙ ap (λ (b : Bool). cond {A = List L.Show} b (record { slave = slave; moment = m; bytes = shownOf x; sent = took; written = length log } ∷ []) []) v
-            ∙ flip (isFailSafe x) (record { slave = slave; moment = m; bytes = shownOf x; sent = took; written = length log })
-            ∙ sym (ap (L.shownBy slave m took (length log) L.show) (c .0));
-        takes = refl;
-        may = refl;
-        like = subst (λ (r : Result). Like (r .device) d) (sym q) (like-tick d t);
-      }
+    refused-like : (call : Call) (a : Answer) (k : ℕ) → callIn d t room call ≡ refusedOf a t k d
+        → Like (callIn d t room call .device) d
+    refused-like call a k q = subst (λ (r : Result). Like (r .device) d) (sym q)
+        (clocked-like cid slave m d₀ n T d same t room reading log took)
 
-  showing : (k : ℕ) → Matches cid slave m d n t room log took (show k)
-  showing k =
-      let x = afterTick (endpointAt (d .endpoints) k) t in
-      let a = beforeShow d t (isShort room) k in
-      bcase (isDone a)
-      (λ h. bcase (eqb n k)
-      (λ b. let q = eqb-true n k b in
-      subst (λ (i : ℕ). Matches cid slave m d n t room log took (show i)) q
-      (showing-own (subst (λ (i : ℕ). isDone (beforeShow d t (isShort room) i) ≡ true) (sym q) h)))
-      (λ b.
-      let q : callIn d t room (show k) ≡ shownIn x t k d = ap (λ (b : Bool). cond b (shownIn x t k d) (refusedOf a t k d)) h in
-      idle cid slave m d₀ n T d same t room reading log took (show k)
-      (ap (λ (r : Result). endpointAt (r .device .endpoints) n) q ∙ ticked-at d t n) (empty cid)
-      (ap (λ (i : Bool). i && (isDone (callIn d t room (show k) .answer) && not (callIn d t room (show k) .failsafe)))
-      (ap (λ (y : Entry). isAt y k) the-entry ∙ b)) refl
-      (subst (λ (r : Result). Like (r .device) d) (sym q) (like-tick d t))))
-      (λ h.
-      let q : callIn d t room (show k) ≡ refusedOf a t k d = ap (λ (b : Bool). cond b (shownIn x t k d) (refusedOf a t k d)) h in
-      idle cid slave m d₀ n T d same t room reading log took (show k)
-      (ap (λ (r : Result). endpointAt (r .device .endpoints) n) q ∙ clocked-at cid slave m d₀ n T d same t room reading log took) (empty cid)
-      (ap (λ (b : Bool). isAt (entryOf cid (d .count) (d .endpoints)) k && (b && not (callIn d t room (show k) .failsafe)))
-      (ap (λ (r : Result). isDone (r .answer)) q ∙ h) ∙ and-false (isAt (entryOf cid (d .count) (d .endpoints)) k)) refl
-      (subst (λ (r : Result). Like (r .device) d) (sym q) (clocked-like cid slave m d₀ n T d same t room reading log took)))
+    -- the CID's entry, and its CID
+    the-entry : entryOf cid (d .count) (d .endpoints) ≡ At n
+    the-entry = entry-like same cid ∙ T .entry
 
-  -- ---- deliver
-  -- refused by the reader, or of no connection
-  stray : (s : List ℕ) (a : Answer) → isDone a ≡ false → callIn d t room (deliver s) ≡ refusedOf a t 0 d
-      → Matches cid slave m d n t room log took (deliver s)
-  stray s a h q =
-      idle cid slave m d₀ n T d same t room reading log took (deliver s)
-      (ap (λ (r : Result). endpointAt (r .device .endpoints) n) q ∙ clocked-at cid slave m d₀ n T d same t room reading log took)
-      (ap (λ (r : Result). isFrameOf cid (r .writes)) q ∙ empty cid) refl
-      (ap (λ (b : Bool). cond (b && isRefreshOf cid s) (lastOf s (toLog log)) took) (ap (λ (r : Result). isDone (r .answer)) q ∙ h))
-      (subst (λ (r : Result). Like (r .device) d) (sym q) (clocked-like cid slave m d₀ n T d same t room reading log took))
+    its-cid : endpointAt (d .endpoints) n .settings .connection ≡ cid
+    its-cid = ap (λ (s : Settings). s .connection) (like-at same n) ∙ T .has
 
-  module _ (s : List ℕ) (bytes : handsBytes (deliver s) ≡ true) (may : mayDeliver cid (toLog log) (deliver s) ≡ true)
-      (f : Fields) (from to : ℕ) (is-frame : readingOf s ≡ Frame f from to) where
-    back : Writable f (slice from to s) × (frameBytes f (slice from to s) ≡ s)
-    back = round-trip .back s f from to (bytes-of s bytes) is-frame
+    acting : (a : Act) (k : ℕ) → Match (act a k)
+    acting a k = on-entry (act a k) (S.act a) (lends room a) k (record {
+      is = act-in d t room a k;
+      bytes = tt;
+      lent = refl;
+      frames = λ w. refl;
+      no-show = λ r. refl;
+      no-show-by = λ x. refl;
+      took-none = refl;
+      took-other = λ ne b. refl;
+      took-own = λ q a. refl;
+      may = λ q. refl;
+    })
 
-    -- the entry's CID is the frame's
-    its-frame : (k : ℕ) → entryOf (f .connection) (d .count) (d .endpoints) ≡ At k → k ≡ n → f .connection ≡ cid
-    its-frame k h q =
-        sym (entry-found (f .connection) (d .count) k (d .endpoints) h .has)
-        ∙ ap (λ (i : ℕ). endpointAt (d .endpoints) i .settings .connection) q ∙ its-cid
+    sending : (k : ℕ) (value : List ℕ) → handsBytes (send k value) ≡ true → Match (send k value)
+    sending k value h = on-entry (send k value) (S.send value) (isShort room) k (record {
+      is = refl;
+      bytes = bytes-of value h;
+      lent = refl;
+      frames = λ w. refl;
+      no-show = λ r. refl;
+      no-show-by = λ x. refl;
+      took-none = refl;
+      took-other = λ ne b. refl;
+      took-own = λ q a. refl;
+      may = λ q. refl;
+    })
 
-    no-frame : (k : ℕ) → entryOf (f .connection) (d .count) (d .endpoints) ≡ At k → (k ≡ n → ⊥) → f .connection ≡ cid → ⊥
-    no-frame k h ne q =
-        ne (ap at (sym h ∙ ap (λ (c : ℕ). entryOf c (d .count) (d .endpoints)) q ∙ the-entry))
+    -- ---- show
+    showing-own : isDone (beforeShow d t (isShort room) n) ≡ true → Match (show n)
+    unfolding toLog
+    showing-own h =
+        let e = endpointAt (d .endpoints) n in
+        let x = afterTick e t in
+        let a = beforeShow d t (isShort room) n in
+        let y = L.shown slave m (shownOf x) took (length log) in
+        let q : callIn d t room (show n) ≡ shownIn x t n d = cond-true (isDone a) (shownIn x t n d) (refusedOf a t n d) h in
+        let c = show-call e t in
+        let v : showsValue cid d (show n) (shownIn x t n d) ≡ not (isFailSafe x) =
+        ap (λ (b : Bool). b && (true && not (isFailSafe x))) (ap (λ (y : Entry). isAt y n) the-entry ∙ eq-eqb n n refl) in
+        record {
+          by = S.show;
+          endpoint = ap (λ (r : Result). endpointAt (r .device .endpoints) n) q ∙ ticked-at d t n ∙ sym (c .0);
+          logs = not-logged cid slave m (show n) [] (empty cid)
+              ∙ sym (ap (λ (w : Written). toLog (L.logged slave m S.show w)) (c .1));
+          good = subst (λ (w : Written). AllGood cid (L.logged slave m S.show w)) (sym (c .1)) no-more;
+          shows = ap (shownBy cid slave d m took (length log) (show n)) q
+              ∙ ap (λ (b : Bool). cond {A = List L.Show} b (y ∷ []) []) v
+              ∙ flip (isFailSafe x) y ∙ sym (ap (L.shownBy slave m took (length log) S.show) (c .0));
+          takes = refl;
+          may = refl;
+          like = subst (λ (r : Result). Like (r .device) d) (sym q) (like-tick d t);
+        }
 
-    refreshes : isRefreshOf cid s ≡ (eqb (f .connection) cid && is (f .command) K.Refresh)
-    refreshes = ap (isRefreshIn cid) is-frame
+    showing : (k : ℕ) → Match (show k)
+    showing k =
+        let x = afterTick (endpointAt (d .endpoints) k) t in
+        let a = beforeShow d t (isShort room) k in
+        let r = callIn d t room (show k) in
+        bcase (isDone a)
+        (λ h. bcase (eqb n k)
+        (λ b. let q = eqb-true n k b in
+        subst (λ (i : ℕ). Match (show i)) q
+        (showing-own (subst (λ (i : ℕ). isDone (beforeShow d t (isShort room) i) ≡ true) (sym q) h)))
+        (λ b.
+        let q : r ≡ shownIn x t k d = cond-true (isDone a) (shownIn x t k d) (refusedOf a t k d) h in
+        idles (show k) (ap (λ (r : Result). endpointAt (r .device .endpoints) n) q ∙ ticked-at d t n) (empty cid)
+        (ap (λ (i : Bool). i && (isDone (r .answer) && not (r .failsafe))) (ap (λ (y : Entry). isAt y k) the-entry ∙ b))
+        refl (subst (λ (r : Result). Like (r .device) d) (sym q) (like-tick d t))))
+        (λ h.
+        let q : r ≡ refusedOf a t k d = cond-false (isDone a) (shownIn x t k d) (refusedOf a t k d) h in
+        let i = isAt (entryOf cid (d .count) (d .endpoints)) k in
+        idles (show k) (refused-at (show k) a k q) (empty cid)
+        (ap (λ (b : Bool). i && (b && not (r .failsafe))) (ap (λ (r : Result). isDone (r .answer)) q ∙ h) ∙ and-false i)
+        refl (refused-like (show k) a k q))
 
-    last-place : lastOf s (toLog log) ≡ L.lastOf f (slice from to s) log
-    last-place = ap (λ (x : List ℕ). lastOf x (toLog log)) (sym (back .1)) ∙ last-of cid f (slice from to s) (back .0) log good
+    -- ---- deliver
+    -- refused by the reader, or of no connection
+    stray : (s : List ℕ) (a : Answer) → isDone a ≡ false → callIn d t room (deliver s) ≡ refusedOf a t 0 d
+        → Match (deliver s)
+    stray s a h q =
+        idles (deliver s) (refused-at (deliver s) a 0 q)
+        (ap (λ (r : Result). isFrameOf cid (r .writes)) q ∙ empty cid) refl
+        (ap (λ (b : Bool). cond (b && isRefreshOf cid s) (lastOf s (toLog log)) took)
+        (ap (λ (r : Result). isDone (r .answer)) q ∙ h))
+        (refused-like (deliver s) a 0 q)
 
-    delivering-to : (k : ℕ) → entryOf (f .connection) (d .count) (d .endpoints) ≡ At k
-        → Matches cid slave m d n t room log took (deliver s)
-    delivering-to k h =
-        entry-call cid slave m d₀ n T d same t room reading log took (deliver s) (λ e. deliverOf e t f (slice from to s))
-        (L.deliver f (slice from to s)) (isShort room) k (record {
-          is = ap (byReading d t room s) is-frame ∙ ap (byEntry d t room f (slice from to s)) h;
-          acts = λ x. refl;
-          keeps = λ x. step-laws .deliver-keeps x t f (slice from to s);
-          carries = λ x. step-laws .deliver-carries x t f (slice from to s);
-          typed = λ x w. step-laws .deliver-typed x t f (slice from to s) w (back .0 .typed .bytes);
-          lent = refl;
-          frames = λ x. refl;
-          none = refl;
-          no-show = λ r. refl;
-          no-show-by = λ x. refl;
-          took-none = refl;
-          took-other = λ ne b. ap (λ (i : Bool). cond (b && i) (lastOf s (toLog log)) took)
-              (refreshes ∙ ap (λ (i : Bool). i && is (f .command) K.Refresh) (ne-eqb (f .connection) cid (no-frame k h ne)))
-              ∙ ap (λ (i : Bool). cond i (lastOf s (toLog log)) took) (and-false b);
-          took-own = λ q a. ap (λ (i : Bool). cond (isDone a && i) (lastOf s (toLog log)) took)
-              (refreshes ∙ ap (λ (i : Bool). i && is (f .command) K.Refresh) (eq-eqb (f .connection) cid (its-frame k h q)))
-              ∙ ap (λ (i : ℕ). cond (isDone a && is (f .command) K.Refresh) i took) last-place;
-          may = λ q. ap (leb 1) (sym last-place)
-              ∙ sym (ap (λ (i : Bool). not i || leb 1 (lastOf s (toLog log)))
-              (ap (isOf cid) is-frame ∙ eq-eqb (f .connection) cid (its-frame k h q))) ∙ may;
-        })
+    module _ (s : List ℕ) (bytes : handsBytes (deliver s) ≡ true) (may : mayDeliver cid (toLog log) (deliver s) ≡ true)
+        (f : Fields) (from to : ℕ) (is-frame : readingOf s ≡ Frame f from to) where
+      back : Writable f (slice from to s) × (frameBytes f (slice from to s) ≡ s)
+      back = round-trip .back s f from to (bytes-of s bytes) is-frame
 
-    delivering-frame : (x : Entry) → entryOf (f .connection) (d .count) (d .endpoints) ≡ x
-        → Matches cid slave m d n t room log took (deliver s)
-    delivering-frame Absent h =
-        stray s (admit (d .last) t (isShort room) (Dropped R.Unknown)) (not-done (d .last) t (isShort room) R.Unknown)
-        (ap (byReading d t room s) is-frame ∙ ap (byEntry d t room f (slice from to s)) h)
-    delivering-frame (At k) h = delivering-to k h
+      -- the entry's CID is the frame's
+      its-frame : (k : ℕ) → entryOf (f .connection) (d .count) (d .endpoints) ≡ At k → k ≡ n → f .connection ≡ cid
+      its-frame k h q =
+          sym (entry-found (f .connection) (d .count) k (d .endpoints) h .has)
+          ∙ ap (λ (i : ℕ). endpointAt (d .endpoints) i .settings .connection) q ∙ its-cid
 
-  delivering : (s : List ℕ) → handsBytes (deliver s) ≡ true → mayDeliver cid (toLog log) (deliver s) ≡ true
-      → (r : Reading) → readingOf s ≡ r
-      → Matches cid slave m d n t room log took (deliver s)
-  delivering s bytes may (Refused fault) h =
-      stray s (admit (d .last) t (isShort room) (Dropped (reasonOf fault))) (not-done (d .last) t (isShort room) (reasonOf fault))
-      (ap (byReading d t room s) h)
-  delivering s bytes may (Frame f from to) h =
-      delivering-frame s bytes may f from to h (entryOf (f .connection) (d .count) (d .endpoints)) refl
+      no-frame : (k : ℕ) → entryOf (f .connection) (d .count) (d .endpoints) ≡ At k → (k ≡ n → ⊥)
+          → f .connection ≡ cid → ⊥
+      no-frame k h ne q =
+          ne (ap at (sym h ∙ ap (λ (c : ℕ). entryOf c (d .count) (d .endpoints)) q ∙ the-entry))
 
-  pub matches : (call : Call) → handsBytes call ≡ true → mayDeliver cid (toLog log) call ≡ true
-      → Matches cid slave m d n t room log took call
-  matches (start k) b h = starting k
-  matches (send k value) b h = sending k value b
-  matches (deliver s) b h = delivering s b h (readingOf s) refl
-  matches (stop k) b h = stopping k
-  matches (restart k) b h = restarting k
-  matches (show k) b h = showing k
+      refreshes : isRefreshOf cid s ≡ (eqb (f .connection) cid && is (f .command) K.Refresh)
+      refreshes = ap (isRefreshIn cid) is-frame
+
+      last-place : lastOf s (toLog log) ≡ L.lastOf f (slice from to s) log
+      last-place = ap (λ (x : List ℕ). lastOf x (toLog log)) (sym (back .1))
+          ∙ last-of cid f (slice from to s) (back .0) log good
+
+      delivering-to : (k : ℕ) → entryOf (f .connection) (d .count) (d .endpoints) ≡ At k → Match (deliver s)
+      delivering-to k h =
+          let body = slice from to s in
+          let last = lastOf s (toLog log) in
+          on-entry (deliver s) (S.deliver f body) (isShort room) k (record {
+            is = ap (byReading d t room s) is-frame ∙ ap (byEntry d t room f body) h;
+            bytes = back .0 .typed .bytes;
+            lent = refl;
+            frames = λ w. refl;
+            no-show = λ r. refl;
+            no-show-by = λ x. refl;
+            took-none = refl;
+            took-other = λ ne b. ap (λ (i : Bool). cond (b && i) last took)
+                (refreshes ∙ ap (λ (i : Bool). i && is (f .command) K.Refresh)
+                (ne-eqb (f .connection) cid (no-frame k h ne)))
+                ∙ ap (λ (i : Bool). cond i last took) (and-false b);
+            took-own = λ q a. ap (λ (i : Bool). cond (isDone a && i) last took)
+                (refreshes ∙ ap (λ (i : Bool). i && is (f .command) K.Refresh)
+                (eq-eqb (f .connection) cid (its-frame k h q)))
+                ∙ ap (λ (i : ℕ). cond (isDone a && is (f .command) K.Refresh) i took) last-place;
+            may = λ q. ap (leb 1) (sym last-place)
+                ∙ sym (ap (λ (i : Bool). not i || leb 1 last)
+                (ap (isOf cid) is-frame ∙ eq-eqb (f .connection) cid (its-frame k h q))) ∙ may;
+          })
+
+      delivering-frame : (x : Entry) → entryOf (f .connection) (d .count) (d .endpoints) ≡ x → Match (deliver s)
+      delivering-frame Absent h =
+          stray s (admit (d .last) t (isShort room) (Dropped R.Unknown)) (not-done (d .last) t (isShort room) R.Unknown)
+          (ap (byReading d t room s) is-frame ∙ ap (byEntry d t room f (slice from to s)) h)
+      delivering-frame (At k) h = delivering-to k h
+
+    delivering : (s : List ℕ) → handsBytes (deliver s) ≡ true → mayDeliver cid (toLog log) (deliver s) ≡ true
+        → (r : Reading) → readingOf s ≡ r → Match (deliver s)
+    delivering s bytes may (Refused fault) h =
+        stray s (admit (d .last) t (isShort room) (Dropped (reasonOf fault)))
+        (not-done (d .last) t (isShort room) (reasonOf fault)) (ap (byReading d t room s) h)
+    delivering s bytes may (Frame f from to) h =
+        delivering-frame s bytes may f from to h (entryOf (f .connection) (d .count) (d .endpoints)) refl
+
+    pub matches : (call : Call) → handsBytes call ≡ true → mayDeliver cid (toLog log) call ≡ true
+        → Match call
+    matches (act a k) b h = acting a k
+    matches (send k value) b h = sending k value b
+    matches (deliver s) b h = delivering s b h (readingOf s) refl
+    matches (show k) b h = showing k

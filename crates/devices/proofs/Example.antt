@@ -13,8 +13,9 @@ use Rattle.frame.specs.Writing.{headBytes, withCheckWord, twice, subBytes, fram
 use Rattle.steps.specs.Frames.{bytesOf, plainFields, setupData}
 use Rattle.settings.specs.Lists.{connectionAt, settingsAt, isConnectionAt, isNewAt, areConnections, isList}
 use Rattle.device.specs.Tables.{endpointAt, findFrom, entryOf, freshUpTo, tickedAll}
-use Rattle.link.specs.Runs.{Clocks}
-use Rattle.devices.specs.Runs.{Call, start, send, deliver, show, Event, areBytes, lastFrom, lastOf, Run, afterAll}
+use Rattle.steps.specs.Steps.{start}
+use Rattle.link.specs.Runs as L
+use Rattle.devices.specs.Runs.{Call, act, send, deliver, show, Event, areBytes, lastFrom, lastOf, Run, afterAll}
 use Rattle.devices.specs.Demand.{Holds, runOf}
 
 list : ℕ → List ℕ
@@ -27,7 +28,7 @@ at-slave : ℕ → Call → Event
 at-slave t call = record { slave = true; clock = t; room = 248; call = call }
 
 -- the slave's clock is 5,000 ticks ahead of the master's
-clocks : Clocks
+clocks : L.Clocks
 clocks = record { master = 5000; slave = 0 }
 
 cid : ℕ
@@ -45,7 +46,7 @@ data-of k = setupData (settingsAt (list 0x30000021) 0) k
 
 line : List Event
 line =
-    (at-master 9 (start 0) ∷ [])
+    (at-master 9 (act start 0) ∷ [])
     ++ (exchange 10 K.Connect 0 (data-of K.Connect)
     ++ (exchange 20 K.ConfirmNetwork 0 (data-of K.ConfirmNetwork)
     ++ (exchange 30 K.VerifyStation 0 (data-of K.VerifyStation)
@@ -68,19 +69,26 @@ run = runOf (list 0x30000021) (list 0x30000421) cid clocks line
 
 -- each device holds the CID at entry 0
 master : Holds (list 0x30000021) cid false
-unfolding list cid connectionAt settingsAt isConnectionAt isNewAt areConnections isList freshUpTo endpointAt findFrom entryOf
+unfolding list cid connectionAt settingsAt isConnectionAt isNewAt areConnections isList freshUpTo endpointAt
+    findFrom entryOf
 master = record { done = refl; entry = 0; there = refl; role = refl }
 
 slave : Holds (list 0x30000421) cid true
-unfolding list cid connectionAt settingsAt isConnectionAt isNewAt areConnections isList freshUpTo endpointAt findFrom entryOf
+unfolding list cid connectionAt settingsAt isConnectionAt isNewAt areConnections isList freshUpTo endpointAt
+    findFrom entryOf
 slave = record { done = refl; entry = 0; there = refl; role = refl }
 
 allowed : run .allowed ≡ true
-unfolding run line exchange data-of clocks at-master at-slave list cid afterAll areBytes lastFrom lastOf endpointAt findFrom entryOf freshUpTo tickedAll connectionAt settingsAt isConnectionAt isNewAt areConnections isList bytesOf setupData controlOf hasForm hasCheckWord fieldsIn readingOfCopies readingOf headBytes withCheckWord twice subBytes frameBytes isWritable bitStep bitSteps byteStep crcFrom crc
+unfolding run line exchange data-of clocks at-master at-slave list cid afterAll areBytes lastFrom lastOf endpointAt
+    findFrom entryOf freshUpTo tickedAll connectionAt settingsAt isConnectionAt isNewAt areConnections isList bytesOf
+    setupData controlOf hasForm hasCheckWord fieldsIn readingOfCopies readingOf headBytes withCheckWord twice subBytes
+    frameBytes isWritable bitStep bitSteps byteStep crcFrom crc
 allowed = refl
 
 shown : run .shows
-    ≡ (record { slave = true; moment = 5070; bytes = 1 ∷ 2 ∷ 3 ∷ 4 ∷ []; sent = 11; written = 11 }
-    ∷ record { slave = false; moment = 5080; bytes = 5 ∷ 6 ∷ 7 ∷ 8 ∷ []; sent = 12; written = 12 } ∷ [])
-unfolding run line exchange data-of clocks at-master at-slave list cid afterAll areBytes lastFrom lastOf endpointAt findFrom entryOf freshUpTo tickedAll connectionAt settingsAt isConnectionAt isNewAt areConnections isList bytesOf setupData controlOf hasForm hasCheckWord fieldsIn readingOfCopies readingOf headBytes withCheckWord twice subBytes frameBytes isWritable bitStep bitSteps byteStep crcFrom crc
+    ≡ (L.shown true 5070 (1 ∷ 2 ∷ 3 ∷ 4 ∷ []) 11 11 ∷ L.shown false 5080 (5 ∷ 6 ∷ 7 ∷ 8 ∷ []) 12 12 ∷ [])
+unfolding run line exchange data-of clocks at-master at-slave list cid afterAll areBytes lastFrom lastOf endpointAt
+    findFrom entryOf freshUpTo tickedAll connectionAt settingsAt isConnectionAt isNewAt areConnections isList bytesOf
+    setupData controlOf hasForm hasCheckWord fieldsIn readingOfCopies readingOf headBytes withCheckWord twice subBytes
+    frameBytes isWritable bitStep bitSteps byteStep crcFrom crc
 shown = refl

@@ -15,65 +15,60 @@ use Rattle.endpoint.specs.Table.{stateNumber, isState}
 use Rattle.endpoint.specs.Time.{isExpired, endedOf, afterTick}
 use Rattle.steps.specs.Frames.{nothing}
 use Rattle.steps.specs.Calls.{outcome, dropped, startedOf, restartedOf}
+use Rattle.steps.specs.Steps.{Act, start, restart, Call, act, stepOf}
+use Rattle.steps.proofs.Dispatch.{cond-true, cond-false}
 use Rattle.steps.proofs.Keeps.{bcase}
-use Rattle.link.specs.Runs as L
+use Rattle.link.specs.Runs.{callOf}
 
--- calls that nothing comes of when they are refused
-pub data Quiet : L.Call → Type 0 where
-  starts : Quiet L.start
-  restarts : Quiet L.restart
-
+-- a call that is refused, and that changes and writes nothing else
 pub record Idle (e : Endpoint) (t : ℕ) : Type 0 where
-  pub call : L.Call
+  pub by : Act
   pub answer : Answer
-  pub quiet : Quiet call
-  pub comes : L.callOf e t call ≡ outcome answer (afterTick e t) nothing
+  pub comes : callOf e t (act by) ≡ outcome answer (afterTick e t) nothing
 
 -- what a call comes to where the timer has expired, and where it has not
-pub call-expired : (e : Endpoint) (t : ℕ) (k : L.Call) → isExpired e t ≡ true
-    → L.callOf e t k ≡ outcome (Ended R.Expired) (endedOf e) nothing
-call-expired e t k h = ap (λ (b : Bool). cond b (outcome (Ended R.Expired) (endedOf e) nothing) (L.actOf e t k)) h
+pub call-expired : (e : Endpoint) (t : ℕ) (k : Call) → isExpired e t ≡ true
+    → callOf e t k ≡ outcome (Ended R.Expired) (endedOf e) nothing
+call-expired e t k h = cond-true (isExpired e t) _ (stepOf e t k) h
 
-pub call-timely : (e : Endpoint) (t : ℕ) (k : L.Call) → isExpired e t ≡ false → L.callOf e t k ≡ L.actOf e t k
-call-timely e t k h = ap (λ (b : Bool). cond b (outcome (Ended R.Expired) (endedOf e) nothing) (L.actOf e t k)) h
+pub call-timely : (e : Endpoint) (t : ℕ) (k : Call) → isExpired e t ≡ false → callOf e t k ≡ stepOf e t k
+call-timely e t k h = cond-false (isExpired e t) _ (stepOf e t k) h
 
 pub tick-expired : (e : Endpoint) (t : ℕ) → isExpired e t ≡ true → afterTick e t ≡ endedOf e
-tick-expired e t h = ap (λ (b : Bool). cond b (endedOf e) e) h
+tick-expired e t h = cond-true (isExpired e t) (endedOf e) e h
 
 pub tick-timely : (e : Endpoint) (t : ℕ) → isExpired e t ≡ false → afterTick e t ≡ e
-tick-timely e t h = ap (λ (b : Bool). cond b (endedOf e) e) h
+tick-timely e t h = cond-false (isExpired e t) (endedOf e) e h
 
 not-closed : (s : State) → isState s Terminate ≡ true → isState s Close ≡ false
 not-closed s h = ap (λ (n : ℕ). eqb n (stateNumber Close)) (eqb-true (stateNumber s) (stateNumber Terminate) h)
 
 start-refused : (e : Endpoint) (t : ℕ) (m b : Bool) → b ≡ false
-    → cond (m && b) (outcome Done (startedOf e t) nothing) (dropped e (Dropped R.Turn)) ≡ outcome (Dropped R.Turn) e nothing
-start-refused e t true b h = ap (λ (x : Bool). cond x (outcome Done (startedOf e t) nothing) (dropped e (Dropped R.Turn))) h
+    → cond (m && b) (outcome Done (startedOf e t) nothing) (dropped e (Dropped R.Turn)) ≡ dropped e (Dropped R.Turn)
+start-refused e t true b h = cond-false b _ (dropped e (Dropped R.Turn)) h
 start-refused e t false b h = refl
 
 pub idle-at : (e : Endpoint) (t : ℕ) → Idle e t
 idle-at e t =
     bcase (isExpired e t)
     (λ x. record {
-      call = L.restart;
+      by = restart;
       answer = Ended R.Expired;
-      quiet = restarts;
-      comes = call-expired e t L.restart x ∙ ap (λ (y : Endpoint). outcome (Ended R.Expired) y nothing) (sym (tick-expired e t x));
+      comes = call-expired e t (act restart) x
+          ∙ ap (λ (y : Endpoint). outcome (Ended R.Expired) y nothing) (sym (tick-expired e t x));
     })
     (λ x. bcase (isState (e .state) Terminate)
     (λ s. record {
-      call = L.start;
+      by = start;
       answer = Dropped R.Turn;
-      quiet = starts;
-      comes = call-timely e t L.start x
+      comes = call-timely e t (act start) x
           ∙ start-refused e t (not (e .settings .slave)) (isState (e .state) Close) (not-closed (e .state) s)
-          ∙ ap (λ (y : Endpoint). outcome (Dropped R.Turn) y nothing) (sym (tick-timely e t x));
+          ∙ ap (λ (y : Endpoint). dropped y (Dropped R.Turn)) (sym (tick-timely e t x));
     })
     (λ s. record {
-      call = L.restart;
+      by = restart;
       answer = Dropped R.Turn;
-      quiet = restarts;
-      comes = call-timely e t L.restart x
-          ∙ ap (λ (b : Bool). cond b (outcome Done (restartedOf e) nothing) (dropped e (Dropped R.Turn))) s
-          ∙ ap (λ (y : Endpoint). outcome (Dropped R.Turn) y nothing) (sym (tick-timely e t x));
+      comes = call-timely e t (act restart) x
+          ∙ cond-false (isState (e .state) Terminate) (outcome Done (restartedOf e) nothing) (dropped e (Dropped R.Turn)) s
+          ∙ ap (λ (y : Endpoint). dropped y (Dropped R.Turn)) (sym (tick-timely e t x));
     }))

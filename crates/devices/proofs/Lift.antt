@@ -16,6 +16,7 @@ use Rattle.endpoint.specs.declared.Timestamp.the-variants.{Never, At}
 use Rattle.endpoint.specs.declared.Endpoint.{Endpoint}
 use Rattle.endpoint.specs.Answers.{isDone}
 use Rattle.endpoint.specs.Time.{lastReading}
+use Rattle.steps.specs.Steps as S
 use Rattle.steps.proofs.Keeps.{bcase}
 use Rattle.device.specs.declared.Device.{Device}
 use Rattle.device.specs.Tables.{endpointAt}
@@ -47,7 +48,7 @@ record Side (d₀ : Device) (n : ℕ) (d : Device) (e : Endpoint) (took took′ 
 -- a call at that end, and the one that does the same to the endpoint
 record Both (cid : ℕ) (slave : Bool) (m : ℕ) (d₀ : Device) (n : ℕ) (d : Device) (t room : ℕ) (call : Call) (sent : List Sent) (log : List L.Entry)
     (e : Endpoint) (took took′ : ℕ) : Type 0 where
-  by : L.Call
+  by : S.Call
   side : Side d₀ n (callIn d t room call .device) (L.callOf e t by .endpoint)
       (tookBy cid sent call (isDone (callIn d t room call .answer)) took) (L.tookBy log by (L.callOf e t by .answer) took′)
   logs : logged cid slave m call (frameBy call (callIn d t room call .writes)) ≡ toLog (L.logged slave m by (L.callOf e t by .writes))
@@ -110,7 +111,7 @@ module _ (wm ws : List ℕ) (cid : ℕ) (hm : Holds wm cid false) (hs : Holds ws
         later = and-right (mayDeliver cid (l .log) (v .call)) _ b;
       }
 
-  still-allowed : (l : Run) (x : L.Link) (v : Event) (k : L.Call) → Sim l x → Kept l v → L.mayDeliver (x .log) k ≡ true
+  still-allowed : (l : Run) (x : L.Link) (v : Event) (k : S.Call) → Sim l x → Kept l v → L.mayDeliver (x .log) k ≡ true
       → leb (v .clock) lastReading ≡ true
       → (x .allowed && (L.mayDeliver (x .log) k && (leb (x .latest) (L.momentOf c (v .slave) (v .clock)) && leb (v .clock) lastReading))) ≡ true
   still-allowed l x v k S kv h lim =

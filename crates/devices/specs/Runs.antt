@@ -18,15 +18,14 @@ use Rattle.device.specs.declared.Entry.the-variants.{Absent, At}
 use Rattle.device.specs.Tables.{entryOf}
 use Rattle.device.specs.Clock.{isReading}
 use Rattle.device.specs.Calls.{Result, startIn, sendIn, stopIn, restartIn, showIn, deliverIn}
-use Rattle.link.specs.Runs.{Clocks, momentOf, Show}
+use Rattle.steps.specs.Steps.{Act, start, stop, restart}
+use Rattle.link.specs.Runs.{Clocks, momentOf, Show, shown}
 
 -- ---- calls: any but load, for whatever entry
 pub data Call : Type 0 where
-  start : ℕ → Call
+  act : Act → ℕ → Call
   send : ℕ → List ℕ → Call
   deliver : List ℕ → Call
-  stop : ℕ → Call
-  restart : ℕ → Call
   show : ℕ → Call
 
 -- a call at the slave's device or the master's, with its clock reading and the length of the output lent to it
@@ -37,12 +36,15 @@ pub record Event : Type 0 where
   pub call : Call
 
 -- what the call comes to, as the contracts of `device` have it
+abbrev pub actIn : Device → ℕ → ℕ → Act → ℕ → Result
+actIn d t room start n = startIn d t n
+actIn d t room stop n = stopIn d t room n
+actIn d t room restart n = restartIn d t n
+
 abbrev pub callIn : Device → ℕ → ℕ → Call → Result
-callIn d t room (start n) = startIn d t n
+callIn d t room (act a n) = actIn d t room a n
 callIn d t room (send n value) = sendIn d t room n value
 callIn d t room (deliver s) = deliverIn d t room s
-callIn d t room (stop n) = stopIn d t room n
-callIn d t room (restart n) = restartIn d t n
 callIn d t room (show n) = showIn d t room n
 
 -- ---- bytes as the reader takes them
@@ -74,33 +76,31 @@ pub record Sent : Type 0 where
   pub bytes : List ℕ
   pub lent : Option (List ℕ)
 
+abbrev pub sent : Bool → ℕ → List ℕ → Option (List ℕ) → Sent
+sent slave moment bytes lent = record { slave = slave; moment = moment; bytes = bytes; lent = lent }
+
 -- what stands past the end of the log is of no account
 abbrev pub noSent : Sent
-noSent = record { slave = false; moment = 0; bytes = []; lent = none }
+noSent = sent false 0 [] none
 
 unfoldable pub sentAt : List Sent → ℕ → Sent
 sentAt l i = getD l i noSent
 
--- what a send, stop or deliver wrote; a show writes values and no frames
+-- what a call wrote to the bus; a show writes a value and no frame
 abbrev pub frameBy : Call → List ℕ → List ℕ
-frameBy (start n) writes = []
+frameBy (act a n) writes = writes
 frameBy (send n value) writes = writes
 frameBy (deliver s) writes = writes
-frameBy (stop n) writes = writes
-frameBy (restart n) writes = []
 frameBy (show n) writes = []
 
 abbrev pub lentTo : Call → Option (List ℕ)
-lentTo (start n) = none
+lentTo (act a n) = none
 lentTo (send n value) = some value
 lentTo (deliver s) = none
-lentTo (stop n) = none
-lentTo (restart n) = none
 lentTo (show n) = none
 
 abbrev pub logged : ℕ → Bool → ℕ → Call → List ℕ → List Sent
-logged cid slave m call bytes =
-    cond (isFrameOf cid bytes) (record { slave = slave; moment = m; bytes = bytes; lent = lentTo call } ∷ []) []
+logged cid slave m call bytes = cond (isFrameOf cid bytes) (sent slave m bytes (lentTo call) ∷ []) []
 
 -- one more than the last place of these bytes, counted on from n; found where none is left
 unfoldable pub lastFrom : ℕ → List ℕ → List Sent → ℕ → ℕ
@@ -134,29 +134,23 @@ tookAt l slave = cond slave (l .slaveTook) (l .masterTook)
 -- a deliver hands over a frame of the CID that was written, at either end; or bytes that the reader takes for no
 -- frame, or for one under another CID
 abbrev pub mayDeliver : ℕ → List Sent → Call → Bool
-mayDeliver cid l (start n) = true
+mayDeliver cid l (act a n) = true
 mayDeliver cid l (send n value) = true
 mayDeliver cid l (deliver s) = not (isFrameOf cid s) || leb 1 (lastOf s l)
-mayDeliver cid l (stop n) = true
-mayDeliver cid l (restart n) = true
 mayDeliver cid l (show n) = true
 
 -- a value and what came from the bus are bytes
 abbrev pub handsBytes : Call → Bool
-handsBytes (start n) = true
+handsBytes (act a n) = true
 handsBytes (send n value) = areBytes value
 handsBytes (deliver s) = areBytes s
-handsBytes (stop n) = true
-handsBytes (restart n) = true
 handsBytes (show n) = true
 
 -- one more than the place of what a call took, an S-Refresh of the CID that was done; else what was taken before
 abbrev pub tookBy : ℕ → List Sent → Call → Bool → ℕ → ℕ
-tookBy cid l (start n) done last = last
+tookBy cid l (act a n) done last = last
 tookBy cid l (send n value) done last = last
 tookBy cid l (deliver s) done last = cond (done && isRefreshOf cid s) (lastOf s l) last
-tookBy cid l (stop n) done last = last
-tookBy cid l (restart n) done last = last
 tookBy cid l (show n) done last = last
 
 abbrev pub isAt : Entry → ℕ → Bool
@@ -165,17 +159,15 @@ isAt (At m) n = eqb m n
 
 -- a done show of the CID's entry that is not fail-safe
 abbrev pub showsValue : ℕ → Device → Call → Result → Bool
-showsValue cid d (start n) r = false
+showsValue cid d (act a n) r = false
 showsValue cid d (send n value) r = false
 showsValue cid d (deliver s) r = false
-showsValue cid d (stop n) r = false
-showsValue cid d (restart n) r = false
 showsValue cid d (show n) r =
     isAt (entryOf cid (d .count) (d .endpoints)) n && (isDone (r .answer) && not (r .failsafe))
 
 abbrev pub shownBy : ℕ → Bool → Device → ℕ → ℕ → ℕ → Call → Result → List Show
 shownBy cid slave d m took n call r =
-    cond (showsValue cid d call r) (record { slave = slave; moment = m; bytes = r .writes; sent = took; written = n } ∷ []) []
+    cond (showsValue cid d call r) (shown slave m (r .writes) took n ∷ []) []
 
 -- a call whose clock reading is accepted; moments never fall
 abbrev pub afterCall : ℕ → Clocks → Run → Event → Result → Run

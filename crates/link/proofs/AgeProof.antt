@@ -2,7 +2,7 @@
 use mathlib.Core.Path.{_≡_, refl, sym, ap, subst, _∙_}
 use mathlib.Core.Bool.{Bool, true, false, not, cond, false≢true}
 use mathlib.Core.List.{List, [], _∷_, _++_, append-nil}
-use Prim.Native.Nat.{ℕ, _+_, _≤_}
+use Prim.Native.Nat.{ℕ, _+_, _≤_, _<_}
 use native.Mathlib.Nat.{not-suc-le-zero}
 use native.Mathlib.Omega.{arith}
 use lib.Dec.{leb}
@@ -17,14 +17,16 @@ use Rattle.endpoint.specs.Time.{isExpired}
 use Rattle.steps.specs.Calls.{isFailSafe, shownOf}
 use Rattle.steps.proofs.Dispatch.{cond-false}
 use Rattle.steps.proofs.Keeps.{bcase}
-use Rattle.link.specs.Runs.{Clocks, momentOf, clockLimit, Call, start, send, deliver, stop, restart, show, Event}
-use Rattle.link.specs.Runs.{callOf, Entry, entryAt, logged, Show, showAt, Link, mayDeliver, tookBy, shownBy}
+use Rattle.steps.specs.Steps.{Call, act, send, deliver, show}
+use Rattle.link.specs.Runs.{Clocks, momentOf, clockLimit, Event}
+use Rattle.link.specs.Runs.{callOf, Entry, entryAt, logged, Show, shown, showAt, Link, mayDeliver, tookBy}
+use Rattle.link.specs.Runs.{shownBy}
 use Rattle.link.specs.Runs.{afterEvent, afterAll, begun}
 use Rattle.link.specs.Fresh.{Paired, boundOf, ItsSend, Fresh, AgeTheorem, Silence}
 use Rattle.link.proofs.Marks.{size}
 use Rattle.link.proofs.Invariant.{restM, restS, Inv}
 use Rattle.link.proofs.Kept.{later}
-use Rattle.link.proofs.Relation.{termsOf, small-of, marks, Linked}
+use Rattle.link.proofs.Relation.{termsOf, small-of, marks, Honest, Linked}
 use Rattle.link.proofs.Ends.{at-master, at-slave}
 use Rattle.link.proofs.AtMaster.{shown-m}
 use Rattle.link.proofs.AtSlave.{shown-s}
@@ -62,64 +64,35 @@ module _ (c : Clocks) (sm ss : Settings) (p : Paired sm ss) where
   bound-s : ss .age + (ss .interval + 0) ≡ boundOf ss
   bound-s = ap (λ (b : Bool). ss .age + (ss .interval + cond b 0 (ss .roundtrip))) (sym (p .slave))
 
-  -- a show at the master, and at the slave
-  shows-m : (log : List Entry) (em es : Endpoint) (tm ts t : ℕ) (shows : List Show) → t ≤ clockLimit
-      → Linked c sm ss (t + c .master) log em es tm ts
+  -- a show at either end, whose value has its send
+  shows-at : (slave : Bool) (log : List Entry) (e : Endpoint) (tm ts m t : ℕ) (shows : List Show)
+      → ((i : ℕ) → i < length log → Honest (entryAt log i))
+      → (isExpired e t ≡ false → isFailSafe e ≡ false
+      → ShownAt (marks log) (cond slave 0 2) (cond slave ts tm) m (boundOf (cond slave ss sm)) (shownOf e))
       → ShowsInv sm ss log tm ts shows
       → ShowsInv sm ss log tm ts
-      (shows ++ shownBy false (t + c .master) tm (length log) show (callOf em t show .endpoint))
-  shows-m log em es tm ts t shows lim L v =
-      bcase (isExpired em t) (λ x. rw x (quiet log tm ts shows v))
-      (λ x. rw x (bcase (isFailSafe em) (λ f. rw f (quiet log tm ts shows v))
+      (shows ++ shownBy slave m (cond slave ts tm) (length log) show (callOf e t show .endpoint))
+  shows-at slave log e tm ts m t shows honest its v =
+      let x = shown slave m (shownOf e) (cond slave ts tm) (length log) in
+      bcase (isExpired e t) (λ x. rw x (quiet log tm ts shows v))
+      (λ n. rw n (bcase (isFailSafe e) (λ f. rw f (quiet log tm ts shows v))
       (λ f. subst (λ (y : List Show). ShowsInv sm ss log tm ts (shows ++ y))
-      (sym (cond-false (isFailSafe em) []
-      (record { slave = false; moment = t + c .master; bytes = shownOf em; sent = tm; written = length log } ∷ [])
-      f))
-      (add sm ss log tm ts shows
-      (record { slave = false; moment = t + c .master; bytes = shownOf em; sent = tm; written = length log })
-      (sent-by sm ss log false tm (t + c .master) (shownOf em) (L .honest)
-      (subst (λ (b : ℕ). ShownAt (marks log) 2 tm (t + c .master) b (shownOf em)) bound-m
-      (shown-m c sm ss p t lim L x f))) refl v))))
-
-  shows-s : (log : List Entry) (em es : Endpoint) (tm ts t : ℕ) (shows : List Show) → t ≤ clockLimit
-      → Linked c sm ss (t + c .slave) log em es tm ts
-      → ShowsInv sm ss log tm ts shows
-      → ShowsInv sm ss log tm ts
-      (shows ++ shownBy true (t + c .slave) ts (length log) show (callOf es t show .endpoint))
-  shows-s log em es tm ts t shows lim L v =
-      bcase (isExpired es t) (λ x. rw x (quiet log tm ts shows v))
-      (λ x. rw x (bcase (isFailSafe es) (λ f. rw f (quiet log tm ts shows v))
-      (λ f. subst (λ (y : List Show). ShowsInv sm ss log tm ts (shows ++ y))
-      (sym (cond-false (isFailSafe es) []
-      (record { slave = true; moment = t + c .slave; bytes = shownOf es; sent = ts; written = length log } ∷ []) f))
-      (add sm ss log tm ts shows
-      (record { slave = true; moment = t + c .slave; bytes = shownOf es; sent = ts; written = length log })
-      (sent-by sm ss log true ts (t + c .slave) (shownOf es) (L .honest)
-      (subst (λ (b : ℕ). ShownAt (marks log) 0 ts (t + c .slave) b (shownOf es)) bound-s
-      (shown-s c sm ss p t lim L x f))) refl v))))
+      (sym (cond-false (isFailSafe e) [] (x ∷ []) f))
+      (add sm ss log tm ts shows x
+      (sent-by sm ss log slave (cond slave ts tm) m (shownOf e) honest (its n f)) refl v))))
 
   -- what a call adds to the shows, whatever the call; what it writes and takes comes after
-  adds-m : (log : List Entry) (em es : Endpoint) (tm ts t : ℕ) (shows : List Show) (call : Call) → t ≤ clockLimit
-      → Linked c sm ss (t + c .master) log em es tm ts → ShowsInv sm ss log tm ts shows
+  adds : (slave : Bool) (log : List Entry) (e : Endpoint) (tm ts m t : ℕ) (shows : List Show) (call : Call)
+      → ((i : ℕ) → i < length log → Honest (entryAt log i))
+      → (isExpired e t ≡ false → isFailSafe e ≡ false
+      → ShownAt (marks log) (cond slave 0 2) (cond slave ts tm) m (boundOf (cond slave ss sm)) (shownOf e))
+      → ShowsInv sm ss log tm ts shows
       → ShowsInv sm ss log tm ts
-      (shows ++ shownBy false (t + c .master) tm (length log) call (callOf em t call .endpoint))
-  adds-m log em es tm ts t shows start lim L v = quiet log tm ts shows v
-  adds-m log em es tm ts t shows (send value) lim L v = quiet log tm ts shows v
-  adds-m log em es tm ts t shows (deliver f body) lim L v = quiet log tm ts shows v
-  adds-m log em es tm ts t shows stop lim L v = quiet log tm ts shows v
-  adds-m log em es tm ts t shows restart lim L v = quiet log tm ts shows v
-  adds-m log em es tm ts t shows show lim L v = shows-m log em es tm ts t shows lim L v
-
-  adds-s : (log : List Entry) (em es : Endpoint) (tm ts t : ℕ) (shows : List Show) (call : Call) → t ≤ clockLimit
-      → Linked c sm ss (t + c .slave) log em es tm ts → ShowsInv sm ss log tm ts shows
-      → ShowsInv sm ss log tm ts
-      (shows ++ shownBy true (t + c .slave) ts (length log) call (callOf es t call .endpoint))
-  adds-s log em es tm ts t shows start lim L v = quiet log tm ts shows v
-  adds-s log em es tm ts t shows (send value) lim L v = quiet log tm ts shows v
-  adds-s log em es tm ts t shows (deliver f body) lim L v = quiet log tm ts shows v
-  adds-s log em es tm ts t shows stop lim L v = quiet log tm ts shows v
-  adds-s log em es tm ts t shows restart lim L v = quiet log tm ts shows v
-  adds-s log em es tm ts t shows show lim L v = shows-s log em es tm ts t shows lim L v
+      (shows ++ shownBy slave m (cond slave ts tm) (length log) call (callOf e t call .endpoint))
+  adds slave log e tm ts m t shows (act a) honest its v = quiet log tm ts shows v
+  adds slave log e tm ts m t shows (send value) honest its v = quiet log tm ts shows v
+  adds slave log e tm ts m t shows (deliver f body) honest its v = quiet log tm ts shows v
+  adds slave log e tm ts m t shows show honest its v = shows-at slave log e tm ts m t shows honest its v
 
   -- ---- one event
   step : (l : Link) (slave : Bool) (t : ℕ) (call : Call) → mayDeliver (l .log) call ≡ true
@@ -135,7 +108,9 @@ module _ (c : Clocks) (sm ss : Settings) (p : Paired sm ss) where
             (tookBy (l .log) call (callOf (l .master) t call .answer) (l .masterTook)) (l .slaveTook)
             (l .shows ++ shownBy false (t + c .master) (l .masterTook) (length (l .log)) call
             (callOf (l .master) t call .endpoint)) (A .1) (omega arith)
-            (adds-m (l .log) (l .master) (l .slave) (l .masterTook) (l .slaveTook) t (l .shows) call lim L (v .shown));
+            (adds false (l .log) (l .master) (l .masterTook) (l .slaveTook) (t + c .master) t (l .shows) call (L .honest)
+            (λ x f. subst (λ (b : ℕ). ShownAt (marks (l .log)) 2 (l .masterTook) (t + c .master) b (shownOf (l .master)))
+            bound-m (shown-m c sm ss p t lim L x f)) (v .shown));
       }
   step l true t call h k lim v =
       let L = linked-later (t + c .slave) k (v .linked) in
@@ -147,7 +122,9 @@ module _ (c : Clocks) (sm ss : Settings) (p : Paired sm ss) where
             (l .masterTook) (tookBy (l .log) call (callOf (l .slave) t call .answer) (l .slaveTook))
             (l .shows ++ shownBy true (t + c .slave) (l .slaveTook) (length (l .log)) call
             (callOf (l .slave) t call .endpoint)) (omega arith) (A .1)
-            (adds-s (l .log) (l .master) (l .slave) (l .masterTook) (l .slaveTook) t (l .shows) call lim L (v .shown));
+            (adds true (l .log) (l .slave) (l .masterTook) (l .slaveTook) (t + c .slave) t (l .shows) call (L .honest)
+            (λ x f. subst (λ (b : ℕ). ShownAt (marks (l .log)) 0 (l .slaveTook) (t + c .slave) b (shownOf (l .slave)))
+            bound-s (shown-s c sm ss p t lim L x f)) (v .shown));
       }
 
   -- ---- every list: what is allowed at the end was allowed all along

@@ -23,8 +23,8 @@ use Rattle.steps.proofs.Dispatch.{cond-true, cond-false, deliver-request, deliv
 use Rattle.steps.proofs.Dones.{send-done, stop-done, refresh-done, request-done, reply-done}
 use Rattle.steps.proofs.Firsts.{not-dropped}
 use Rattle.steps.proofs.Keeps.{bcase}
-use Rattle.link.specs.Runs.{Clocks, clockLimit, Call, send, deliver, stop, Entry, logged, mayDeliver, tookBy}
-use Rattle.link.specs.Runs.{callOf}
+use Rattle.steps.specs.Steps.{stop, Call, act, send, deliver}
+use Rattle.link.specs.Runs.{Clocks, clockLimit, callOf, Entry, logged, mayDeliver, tookBy}
 use Rattle.link.specs.Fresh.{Paired}
 use Rattle.link.proofs.Relation.{Linked}
 use Rattle.link.proofs.Entries.{FoundAt}
@@ -64,10 +64,10 @@ module _ (c : Clocks) (sm ss : Settings) (p : Paired sm ss) {l : List Entry} {em
         (M.requested-m c sm ss p t lim L value d x))
         (send-done em t value h)
 
-    stopped-m : stopOf em t .answer ≡ Done → KeepsM stop (stopOf em t)
+    stopped-m : stopOf em t .answer ≡ Done → KeepsM (act stop) (stopOf em t)
     stopped-m h =
         let d = stop-done em t h in
-        subst (KeepsM stop) (sym
+        subst (KeepsM (act stop)) (sym
         (d .comes ∙ ap (outcome Done (stoppedOf em t)) (cond-false (em .settings .slave) _ _ role)))
         (M.stopped-m c sm ss p t lim L d)
 
@@ -127,12 +127,12 @@ module _ (c : Clocks) (sm ss : Settings) (p : Paired sm ss) {l : List Entry} {em
         (λ (d : RequestSent es t value). absurd (true≢false (sym slave-role ∙ d .master)))
         (send-done es t value h)
 
-    stopped-s : stopOf es t .answer ≡ Done → KeepsS stop (stopOf es t)
+    stopped-s : stopOf es t .answer ≡ Done → KeepsS (act stop) (stopOf es t)
     stopped-s h =
         let d = stop-done es t h in
-        subst (KeepsS stop) (sym
+        subst (KeepsS (act stop)) (sym
         (d .comes ∙ ap (outcome Done (stoppedOf es t)) (cond-true (es .settings .slave) _ _ slave-role)))
-        (silent-s stop Done (stoppedOf es t) (S.stopped-s c sm ss p t lim L))
+        (silent-s (act stop) Done (stoppedOf es t) (S.stopped-s c sm ss p t lim L))
 
     -- a request that was not dropped has a timestamp above the last accepted
     above-s : (f : Fields) (body : List ℕ) → isDropped (firstOf (requestFaults es f body)) ≡ false

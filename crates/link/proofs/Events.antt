@@ -27,8 +27,8 @@ use Rattle.steps.specs.Calls.{stopOf}
 use Rattle.steps.specs.Deliveries.{refreshFaults, refreshedOf, paddedOf, takeRefresh, deliverOf}
 use Rattle.steps.proofs.Dispatch.{cond-true, cond-false, deliver-echo, deliver-refresh}
 use Rattle.steps.proofs.Keeps.{bcase}
-use Rattle.link.specs.Runs.{Call, start, send, deliver, stop, restart, show, Entry, logged, lastOf, mayDeliver}
-use Rattle.link.specs.Runs.{tookBy, actOf}
+use Rattle.steps.specs.Steps.{Act, start, stop, restart, Call, act, send, deliver, show, actOf, stepOf}
+use Rattle.link.specs.Runs.{Entry, logged, lastOf, mayDeliver, tookBy}
 use Rattle.link.proofs.Entries.{FoundAt, found-at}
 
 -- ---- send and stop are done or dropped
@@ -90,17 +90,15 @@ module _ (slave : Bool) (m t : ℕ) (l : List Entry) (e : Endpoint) (took : ℕ)
   -- the clock step ended it
   pub expired : (call : Call) → Kept call (outcome (Ended R.Expired) (endedOf e) nothing)
   unfolding Keeps Kept
-  expired start = (silent start (Ended R.Expired) (endedOf e) ended, omega arith)
+  expired (act a) = (silent (act a) (Ended R.Expired) (endedOf e) ended, omega arith)
   expired (send value) = (silent (send value) (Ended R.Expired) (endedOf e) ended, omega arith)
   expired (deliver f body) =
       not-taken f body (outcome (Ended R.Expired) (endedOf e) nothing) refl
       (silent (deliver f body) (Ended R.Expired) (endedOf e) ended)
-  expired stop = (silent stop (Ended R.Expired) (endedOf e) ended, omega arith)
-  expired restart = (silent restart (Ended R.Expired) (endedOf e) ended, omega arith)
   expired show = (silent show (Ended R.Expired) (endedOf e) ended, omega arith)
 
   module _ (sent : (value : List ℕ) → sendOf e t value .answer ≡ Done → Keeps (send value) (sendOf e t value))
-      (stopped : stopOf e t .answer ≡ Done → Keeps stop (stopOf e t))
+      (stopped : stopOf e t .answer ≡ Done → Keeps (act stop) (stopOf e t))
       (refreshed : (f : Fields) (body : List ℕ) (k : ℕ) → FoundAt f body l k
       → Bool·beq (f .application) (e .settings .slave) ≡ false
       → is (f .command) K′.Refresh ≡ true → takeRefresh e t (f .timestamp) body .answer ≡ Done
@@ -139,24 +137,24 @@ module _ (slave : Bool) (m t : ℕ) (l : List Entry) (e : Endpoint) (took : ℕ)
         (λ r. not-taken f body (deliverOf e t f body)
         (and-false (isDone (deliverOf e t f body .answer)) (is (f .command) K′.Refresh) r) (other f body k g h r)))
 
-    -- every call but a deliver takes nothing
-    pub acted : (call : Call) → mayDeliver l call ≡ true → Kept call (actOf e t call)
-    unfolding Keeps Kept
-    acted start h =
+    acts : (a : Act) → Keeps (act a) (actOf e t a)
+    unfolding Keeps
+    acts start =
         bcase (not (e .settings .slave) && isState (e .state) Close)
-        (λ k. rw k (
-          silent start Done (startedOf e t)
-              (started (not-true (e .settings .slave)
-              (and-left (not (e .settings .slave)) (isState (e .state) Close) k))),
-          omega arith,
-        ))
-        (λ k. rw k (silent start (Dropped R.Turn) e base, omega arith))
+        (λ k. rw k (silent (act start) Done (startedOf e t) (started (not-true (e .settings .slave)
+        (and-left (not (e .settings .slave)) (isState (e .state) Close) k)))))
+        (λ k. rw k (silent (act start) (Dropped R.Turn) e base))
+    acts stop = stop-cases (Keeps (act stop)) e t stopped (λ a. silent (act stop) a e base)
+    acts restart =
+        bcase (isState (e .state) Terminate) (λ k. rw k (silent (act restart) Done (restartedOf e) restarted))
+        (λ k. rw k (silent (act restart) (Dropped R.Turn) e base))
+
+    -- every call but a deliver takes nothing
+    pub acted : (call : Call) → mayDeliver l call ≡ true → Kept call (stepOf e t call)
+    unfolding Keeps Kept
+    acted (act a) h = (acts a, omega arith)
     acted (send value) h =
         (send-cases (Keeps (send value)) e t value (sent value) (λ a. silent (send value) a e base), omega arith)
     acted (deliver f body) h = delivered f body (lastOf f body l - 1)
         (let z = leb-true 1 (lastOf f body l) h in omega arith)
-    acted stop h = (stop-cases (Keeps stop) e t stopped (λ a. silent stop a e base), omega arith)
-    acted restart h =
-        bcase (isState (e .state) Terminate) (λ k. rw k (silent restart Done (restartedOf e) restarted, omega arith))
-        (λ k. rw k (silent restart (Dropped R.Turn) e base, omega arith))
     acted show h = (silent show Done e base, omega arith)

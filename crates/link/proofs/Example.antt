@@ -8,7 +8,8 @@ use Rattle.frame.specs.declared.Command.{Command}
 use Rattle.frame.specs.declared.Command.the-variants as K
 use Rattle.endpoint.specs.declared.Settings.{Settings}
 use Rattle.steps.specs.Frames.{plainFields, setupData}
-use Rattle.link.specs.Runs.{Clocks, Call, start, send, deliver, show, Event, sameFields, lastFrom, lastOf, Link}
+use Rattle.steps.specs.Steps.{start, Call, act, send, deliver, show}
+use Rattle.link.specs.Runs.{Clocks, Event, sameFields, lastFrom, lastOf, shown, Link}
 use Rattle.link.specs.Fresh.{Paired, runOf}
 
 settings : Bool → Settings
@@ -19,8 +20,7 @@ settings slave = record {
   slavewords = 1;
   interval = 100;
   roundtrip = 50;
-  age =
-      50;
+  age = 50;
   station = 7;
 }
 
@@ -44,7 +44,7 @@ exchange t k baseline =
 
 line : List Event
 line =
-    (at-master 9 start ∷ [])
+    (at-master 9 (act start) ∷ [])
     ++ (exchange 10 K.Connect 0
     ++ (exchange 20 K.ConfirmNetwork 0
     ++ (exchange 30 K.VerifyStation 0
@@ -73,8 +73,7 @@ allowed : run .allowed ≡ true
 unfolding run line exchange clocks at-master at-slave settings setupData sameFields lastFrom lastOf
 allowed = refl
 
-shown : run .shows ≡
-    (record { slave = true; moment = 5070; bytes = 1 ∷ 2 ∷ 3 ∷ 4 ∷ []; sent = 11; written = 11 }
-    ∷ record { slave = false; moment = 5080; bytes = 5 ∷ 6 ∷ 7 ∷ 8 ∷ []; sent = 12; written = 12 } ∷ [])
+shows : run .shows ≡
+    (shown true 5070 (1 ∷ 2 ∷ 3 ∷ 4 ∷ []) 11 11 ∷ shown false 5080 (5 ∷ 6 ∷ 7 ∷ 8 ∷ []) 12 12 ∷ [])
 unfolding run line exchange clocks at-master at-slave settings setupData sameFields lastFrom lastOf
-shown = refl
+shows = refl

@@ -18,8 +18,8 @@ use Rattle.endpoint.specs.declared.Answer.the-variants.{Done, Ended}
 use Rattle.endpoint.specs.Answers.{isDone}
 use Rattle.endpoint.specs.Time.{lastReading, isExpired, endedOf}
 use Rattle.steps.specs.Frames.{Written, nothing, written, plainFields}
-use Rattle.steps.specs.Calls.{Outcome, outcome, freshOf, startOf, restartOf, sendOf, stopOf, isFailSafe, shownOf}
-use Rattle.steps.specs.Deliveries.{deliverOf}
+use Rattle.steps.specs.Calls.{Outcome, outcome, freshOf, isFailSafe, shownOf}
+use Rattle.steps.specs.Steps.{Call, act, send, deliver, show, stepOf}
 
 -- ---- moments
 -- a call's moment is its reading plus a constant of its end; document 01's D is the slave's constant less the master's
@@ -35,32 +35,15 @@ abbrev pub clockLimit : ℕ
 clockLimit = lastReading
 
 -- ---- calls
-pub data Call : Type 0 where
-  start : Call
-  send : List ℕ → Call
-  deliver : Fields → List ℕ → Call
-  stop : Call
-  restart : Call
-  show : Call
-
 -- a call at the slave's end or the master's, with its clock reading
 pub record Event : Type 0 where
   pub slave : Bool
   pub clock : ℕ
   pub call : Call
 
--- what a call does to an endpoint whose timer has not expired; a show changes nothing
-abbrev pub actOf : Endpoint → ℕ → Call → Outcome
-actOf e t start = startOf e t
-actOf e t (send value) = sendOf e t value
-actOf e t (deliver f body) = deliverOf e t f body
-actOf e t stop = stopOf e t
-actOf e t restart = restartOf e
-actOf e t show = outcome Done e nothing
-
 -- the clock step first: number 9
 abbrev pub callOf : Endpoint → ℕ → Call → Outcome
-callOf e t call = cond (isExpired e t) (outcome (Ended R.Expired) (endedOf e) nothing) (actOf e t call)
+callOf e t call = cond (isExpired e t) (outcome (Ended R.Expired) (endedOf e) nothing) (stepOf e t call)
 
 -- ---- the frames written, oldest first
 -- by whom, when, the fields and the body, and the value lent to the call: only a send is lent one
@@ -85,11 +68,9 @@ unfoldable pub entryAt : List Entry → ℕ → Entry
 entryAt l i = getD l i noEntry
 
 abbrev pub lentTo : Call → Option (List ℕ)
-lentTo start = none
+lentTo (act a) = none
 lentTo (send value) = some value
 lentTo (deliver f body) = none
-lentTo stop = none
-lentTo restart = none
 lentTo show = none
 
 abbrev pub logged : Bool → ℕ → Call → Written → List Entry
@@ -131,8 +112,11 @@ pub record Show : Type 0 where
   -- how many frames had been written by then
   pub written : ℕ
 
+abbrev pub shown : Bool → ℕ → List ℕ → ℕ → ℕ → Show
+shown slave moment bytes sent n = record { slave = slave; moment = moment; bytes = bytes; sent = sent; written = n }
+
 abbrev pub noShow : Show
-noShow = record { slave = false; moment = 0; bytes = []; sent = 0; written = 0 }
+noShow = shown false 0 [] 0 0
 
 unfoldable pub showAt : List Show → ℕ → Show
 showAt l i = getD l i noShow
@@ -158,30 +142,24 @@ tookAt l slave = cond slave (l .slaveTook) (l .masterTook)
 
 -- a deliver hands over a frame that was written
 abbrev pub mayDeliver : List Entry → Call → Bool
-mayDeliver l start = true
+mayDeliver l (act a) = true
 mayDeliver l (send value) = true
 mayDeliver l (deliver f body) = leb 1 (lastOf f body l)
-mayDeliver l stop = true
-mayDeliver l restart = true
 mayDeliver l show = true
 
 -- one more than the place of what a call took, an S-Refresh that was done; else what was taken before
 abbrev pub tookBy : List Entry → Call → Answer → ℕ → ℕ
-tookBy l start a last = last
+tookBy l (act b) a last = last
 tookBy l (send value) a last = last
 tookBy l (deliver f body) a last = cond (isDone a && is (f .command) K.Refresh) (lastOf f body l) last
-tookBy l stop a last = last
-tookBy l restart a last = last
 tookBy l show a last = last
 
 abbrev pub shownBy : Bool → ℕ → ℕ → ℕ → Call → Endpoint → List Show
-shownBy slave m took n start e = []
+shownBy slave m took n (act a) e = []
 shownBy slave m took n (send value) e = []
 shownBy slave m took n (deliver f body) e = []
-shownBy slave m took n stop e = []
-shownBy slave m took n restart e = []
 shownBy slave m took n show e =
-    cond (isFailSafe e) [] (record { slave = slave; moment = m; bytes = shownOf e; sent = took; written = n } ∷ [])
+    cond (isFailSafe e) [] (shown slave m (shownOf e) took n ∷ [])
 
 -- moments never fall, and no reading is past the limit
 abbrev pub afterEvent : Clocks → Link → Event → Link

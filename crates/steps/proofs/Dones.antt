@@ -37,7 +37,7 @@ use Rattle.steps.proofs.Firsts.{not-dropped, not-soon, first-done, sent
 use Rattle.steps.proofs.Keeps.{bcase}
 
 -- ---- answers apart
-not-done : (r : Reason) → Dropped r ≡ Done → ⊥
+pub not-done : (r : Reason) → Dropped r ≡ Done → ⊥
 not-done r h = let z : _≡_ {A = ℕ} 0 1 = cc in omega arith
 
 -- a dropped answer is not done
@@ -67,6 +67,16 @@ module _ (e : Endpoint) (t : ℕ) where
   restart-done d =
       bcase (isState (e .state) Terminate) (λ h. record { terminated = h; comes = rw h })
       (λ h. absurd (not-done R.Turn (rw h at d)))
+
+  pub start-dropped : (r : Reason) → startOf e t .answer ≡ Dropped r → startOf e t ≡ dropped e (Dropped r)
+  start-dropped r d =
+      bcase (not (e .settings .slave) && isState (e .state) Close) (λ h. absurd (not-done r (sym (rw h at d))))
+      (λ h. let p : Dropped R.Turn ≡ Dropped r = rw h at d in rw h (ap (dropped e) p))
+
+  pub restart-dropped : (r : Reason) → restartOf e .answer ≡ Dropped r → restartOf e ≡ dropped e (Dropped r)
+  restart-dropped r d =
+      bcase (isState (e .state) Terminate) (λ h. absurd (not-done r (sym (rw h at d))))
+      (λ h. let p : Dropped R.Turn ≡ Dropped r = rw h at d in rw h (ap (dropped e) p))
 
   -- ---- send
   above-sent : (n : ℕ) → isDropped (firstOf (sendFaults e t n)) ≡ false

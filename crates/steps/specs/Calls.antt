@@ -19,7 +19,7 @@ use Rattle.endpoint.specs.declared.Faults.{Faults}
 use Rattle.endpoint.specs.Answers.{callFaults, firstOf, isDropped}
 use Rattle.endpoint.specs.Table.{isState, isSetup, requestOf}
 use Rattle.endpoint.specs.Time.{isAbove, noValue, endedOf}
-use Rattle.endpoint.specs.Updates.{inState, timedFrom, withTimestamps, withPending, holding}
+use Rattle.endpoint.specs.Updates.{endpointOf, inState, timedFrom, withTimestamps, withPending, holding}
 use Rattle.steps.specs.Frames.{Written, nothing, written, setupData, sendWidth, showWidth, timeOf, requestFields}
 use Rattle.steps.specs.Frames.{refreshFields, disconnectFields}
 
@@ -38,14 +38,9 @@ dropped e a = outcome a e nothing
 
 -- ---- a connection as loaded
 abbrev pub freshOf : Settings → Endpoint
-freshOf s = record {
-  settings = s;
-  state = Close;
-  since = 0;
-  timestamps = record { sent = Never; accepted = Never };
-  setup = record { pending = Nothing; measured = 0; offset = 0 };
-  value = noValue;
-}
+freshOf s =
+    endpointOf s Close 0 (record { sent = Never; accepted = Never })
+    (record { pending = Nothing; measured = 0; offset = 0 }) noValue
 
 -- ---- start: a master's, in Close
 abbrev pub startedOf : Endpoint → ℕ → Endpoint

@@ -23,7 +23,8 @@ use Rattle.steps.specs.Frames.{refreshFields, replyFields}
 use Rattle.steps.specs.Calls.{outcome, dropped, startedOf, restartedOf, requestedOf, refreshSentOf, stoppedOf}
 use Rattle.steps.specs.Calls.{disconnectOf, startOf, restartOf, sendOf, stopOf}
 use Rattle.steps.specs.Deliveries.{paddedOf, refreshedOf, advancedOf, endedBy, confirmedOf, takeRefresh}
-use Rattle.steps.specs.Deliveries.{takeRequest, takeReply, deliverOf, ageOf}
+use Rattle.steps.specs.Deliveries.{takeRequest, takeReply, ageOf}
+use Rattle.steps.specs.Steps.{Call, act, send, deliver, show, stepOf}
 
 -- what is written can be written, and carries the endpoint's CID and its role's Application bit
 abbrev pub Carries : Endpoint → Written → Type 0
@@ -45,6 +46,13 @@ pub record SettingsFit (s : Settings) : Type 0 where
 abbrev pub IsTyped : Written → Type 0
 IsTyped nothing = Unit {0}
 IsTyped (written f body) = Typed f body
+
+-- what a call hands over are bytes
+abbrev pub HandsBytes : Call → Type 0
+HandsBytes (act a) = Unit {0}
+HandsBytes (send value) = Bytes value
+HandsBytes (deliver f body) = Bytes body
+HandsBytes show = Unit {0}
 
 -- ---- what a call that is done tells of the endpoint, and what it comes to
 pub record StartDone (e : Endpoint) (t : ℕ) : Type 0 where
@@ -105,29 +113,14 @@ pub record ReplyTaken (e : Endpoint) (t : ℕ) (f : Fields) (body : List ℕ) : 
 
 pub record StepLaws : Type 0 where
   -- settings never change
-  pub start-keeps : (e : Endpoint) (t : ℕ) → startOf e t .endpoint .settings ≡ e .settings
-  pub restart-keeps : (e : Endpoint) → restartOf e .endpoint .settings ≡ e .settings
-  pub send-keeps : (e : Endpoint) (t : ℕ) (value : List ℕ) → sendOf e t value .endpoint .settings ≡ e .settings
-  pub stop-keeps : (e : Endpoint) (t : ℕ) → stopOf e t .endpoint .settings ≡ e .settings
-  pub deliver-keeps : (e : Endpoint) (t : ℕ) (f : Fields) (body : List ℕ)
-      → deliverOf e t f body .endpoint .settings ≡ e .settings
-  -- what is written can be written and is the endpoint's; start and restart write nothing
-  pub send-carries : (e : Endpoint) (t : ℕ) (value : List ℕ) → Carries e (sendOf e t value .writes)
-  pub stop-carries : (e : Endpoint) (t : ℕ) → Carries e (stopOf e t .writes)
-  pub deliver-carries : (e : Endpoint) (t : ℕ) (f : Fields) (body : List ℕ) → Carries e (deliverOf e t f body .writes)
-  pub send-typed : (e : Endpoint) (t : ℕ) (value : List ℕ) → SettingsFit (e .settings) → Bytes value
-      → IsTyped (sendOf e t value .writes)
-  pub stop-typed : (e : Endpoint) (t : ℕ) → SettingsFit (e .settings) → IsTyped (stopOf e t .writes)
-  pub deliver-typed : (e : Endpoint) (t : ℕ) (f : Fields) (body : List ℕ) → SettingsFit (e .settings) → Bytes body
-      → IsTyped (deliverOf e t f body .writes)
+  pub keeps : (e : Endpoint) (t : ℕ) (call : Call) → stepOf e t call .endpoint .settings ≡ e .settings
+  -- what is written can be written, and is the endpoint's
+  pub carries : (e : Endpoint) (t : ℕ) (call : Call) → Carries e (stepOf e t call .writes)
+  pub typed : (e : Endpoint) (t : ℕ) (call : Call) → SettingsFit (e .settings) → HandsBytes call
+      → IsTyped (stepOf e t call .writes)
   -- a refusal that does not end the connection leaves all as it was
-  pub send-dropped : (e : Endpoint) (t : ℕ) (value : List ℕ) (r : Reason) → sendOf e t value .answer ≡ Dropped r
-      → sendOf e t value ≡ dropped e (Dropped r)
-  pub stop-dropped : (e : Endpoint) (t : ℕ) (r : Reason) → stopOf e t .answer ≡ Dropped r
-      → stopOf e t ≡ dropped e (Dropped r)
-  pub deliver-dropped : (e : Endpoint) (t : ℕ) (f : Fields) (body : List ℕ) (r : Reason)
-      → deliverOf e t f body .answer ≡ Dropped r
-      → deliverOf e t f body ≡ dropped e (Dropped r)
+  pub drops : (e : Endpoint) (t : ℕ) (call : Call) (r : Reason) → stepOf e t call .answer ≡ Dropped r
+      → stepOf e t call ≡ dropped e (Dropped r)
   -- what done tells
   pub start-done : (e : Endpoint) (t : ℕ) → startOf e t .answer ≡ Done → StartDone e t
   pub restart-done : (e : Endpoint) → restartOf e .answer ≡ Done → RestartDone e

@@ -2,5 +2,6 @@
 pub mod Frames
 pub mod Calls
 pub mod Deliveries
+pub mod Steps
 pub mod Says
 pub mod Laws
