@@ -1,5 +1,6 @@
 // A line of a call list, without its newline: which call it is.
 ghost use mathlib.Core.Path.{_≡_};
+ghost use mathlib.Core.Bool.{cond};
 ghost use Prim.Native.Nat.{_≤_};
 ghost use lib.ListN.{length};
 ghost use Rattle.text.specs.Calls.{nameOf, pairOf, callAt, timedOf, sendOf, deliverOf, roomOf, timedIn, sendIn};
@@ -35,38 +36,25 @@ pub(crate) enum Pair {
     Broken,
 }
 
+fn named(is: bool, name: Name, rest: Name) -> Name
+    ensures { λ r. ⌜ r ≡ cond is name rest ⌝ }
+{
+    if is { name } else { rest }
+}
+
 // The name that a word is.
 fn name_of(word: &[u8]) -> Name
     ensures { λ r. ⌜ r ≡ nameOf (now (word .entry)) ⌝ }
 {
-    if same(word, b"load") {
-        return Name::Load;
-    }
-    if same(word, b"start") {
-        return Name::Start;
-    }
-    if same(word, b"stop") {
-        return Name::Stop;
-    }
-    if same(word, b"restart") {
-        return Name::Restart;
-    }
-    if same(word, b"send") {
-        return Name::Send;
-    }
-    if same(word, b"show") {
-        return Name::Show;
-    }
-    if same(word, b"deliver") {
-        return Name::Deliver;
-    }
-    if same(word, b"check") {
-        return Name::Check;
-    }
-    if same(word, b"room") {
-        return Name::Room;
-    }
-    Name::Unknown
+    let room = named(same(word, b"room"), Name::Room, Name::Unknown);
+    let check = named(same(word, b"check"), Name::Check, room);
+    let deliver = named(same(word, b"deliver"), Name::Deliver, check);
+    let show = named(same(word, b"show"), Name::Show, deliver);
+    let send = named(same(word, b"send"), Name::Send, show);
+    let restart = named(same(word, b"restart"), Name::Restart, send);
+    let stop = named(same(word, b"stop"), Name::Stop, restart);
+    let start = named(same(word, b"start"), Name::Start, stop);
+    named(same(word, b"load"), Name::Load, start)
 }
 
 // The clock, and the entry where it is below 2^32.
