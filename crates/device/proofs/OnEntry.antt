@@ -26,18 +26,21 @@ use Rattle.device.specs.declared.Entry.the-variants.{At}
 use Rattle.device.specs.declared.Called.{Called}
 use Rattle.device.specs.Tables.{endpointAt}
 use Rattle.device.specs.Clock.{isReading, clockStep}
-use Rattle.device.specs.Calls.{Result, admit, refusedOf, unlessRefused, actedOf, beforeEntry, onEntry, isShort}
-use Rattle.device.specs.Calls.{beforeShow, shownIn, showIn, calledOf, stepCalled, CallSays}
+use Rattle.device.specs.Calls.{Result, admit, refusedOf, unlessRefused, placed, actedOf, beforeEntry, onEntry}
+use Rattle.device.specs.Calls.{isShort, beforeShow, shownIn, showIn, calledOf, stepCalled, CallSays}
 
 -- a call that goes on was lent enough room
-pub roomy : (last : Timestamp) (t : ℕ) (short : Bool) (a : Answer) → isDone (admit last t short a) ≡ true → short ≡ false
+pub roomy : (last : Timestamp) (t : ℕ) (short : Bool) (a : Answer) → isDone (admit last t short a) ≡ true
+    → short ≡ false
 roomy last t short a h =
     bcase short
-    (λ s. bcase (isReading last t) (λ r. absurd (false≢true (simp (r, s) at h))) (λ r. absurd (false≢true (simp (r, s) at h))))
+    (λ s. bcase (isReading last t) (λ r. absurd (false≢true (simp (r, s) at h)))
+    (λ r. absurd (false≢true (simp (r, s) at h))))
     (λ s. s)
 
 -- nothing is written
-pub silent : (r : Result) (out : List ℕ) (called : Called) → r .writes ≡ [] → called ≡ calledOf r → CallSays r out out called
+pub silent : (r : Result) (out : List ℕ) (called : Called) → r .writes ≡ [] → called ≡ calledOf r
+    → CallSays r out out called
 unfolding over
 silent r out called q h = record { told = h; output = ap (λ (s : List ℕ). over s out) (sym q) }
 
@@ -56,11 +59,13 @@ module _ (t n : ℕ) (d : Device) (r : Result) (a b : Answer) (q : b ≡ a) wher
   pub refused-says : (out : List ℕ) (called : Called) → isDone b ≡ false → called ≡ calledOf (refusedOf b t n d)
       → CallSays (unlessRefused a t n d r) out out called
   refused-says out called h c =
-      silent (unlessRefused a t n d r) out called (ap (λ (x : Result). x .writes) (refuses h)) (refused-plain called h c)
+      silent (unlessRefused a t n d r) out called (ap (λ (x : Result). x .writes) (refuses h))
+      (refused-plain called h c)
 
 -- ---- the connection's own step
 -- one that is lent no output writes nothing
-pub acted-plain : (act : Endpoint → Outcome) (d : Device) (t n : ℕ) (short : Bool) (b : Answer) (step : Stepped) (called : Called)
+pub acted-plain : (act : Endpoint → Outcome) (d : Device) (t n : ℕ) (short : Bool) (b : Answer) (step : Stepped)
+    (called : Called)
     → b ≡ beforeEntry d t short n → isDone b ≡ true
     → act (endpointAt (d .endpoints) n) .writes ≡ nothing
     → step ≡ plainStep (act (endpointAt (d .endpoints) n))
@@ -80,7 +85,8 @@ acted-plain act d t n short b step called q h w s r =
     ∙ ap calledOf (sym (goes-on t n d (actedOf o t n d) (beforeEntry d t short n) b q h))
 
 -- one that is lent an output
-pub acted-says : (act : Endpoint → Outcome) (d : Device) (t n : ℕ) (out out′ : List ℕ) (b : Answer) (step : Stepped) (called : Called)
+pub acted-says : (act : Endpoint → Outcome) (d : Device) (t n : ℕ) (out out′ : List ℕ) (b : Answer) (step : Stepped)
+    (called : Called)
     → b ≡ beforeEntry d t (isShort (length out)) n → isDone b ≡ true
     → StepSays (withRoom (length out) (endpointAt (d .endpoints) n) (act (endpointAt (d .endpoints) n))) out out′ step
     → called ≡ stepCalled step t n d
@@ -98,9 +104,10 @@ acted-says act d t n out out′ b step called q h s r =
         entry = stepCalled step t n d .entry;
         count = (s .counted ∙ ap (λ (x : Outcome). length (bytesOf (x .writes))) w) i;
         failsafe = false;
-        device = stepCalled (record { answer = step .answer; endpoint = (s .left ∙ ap (λ (x : Outcome). x .endpoint) w) i; count = step .count }) t n d .device;
+        device = placed n ((s .left ∙ ap (λ (x : Outcome). x .endpoint) w) i) (clockStep t d);
       }) ∙ ap calledOf (sym a);
-      output = s .output ∙ ap (λ (x : Outcome). over (bytesOf (x .writes)) out) w ∙ ap (λ (x : Result). over (x .writes) out) (sym a);
+      output = s .output ∙ ap (λ (x : Outcome). over (bytesOf (x .writes)) out) w
+          ∙ ap (λ (x : Result). over (x .writes) out) (sym a);
     }
 
 -- a show
@@ -138,4 +145,5 @@ start-quiet e t =
 
 pub restart-quiet : (e : Endpoint) → restartOf e .writes ≡ nothing
 restart-quiet e =
-    either-quiet (isState (e .state) Terminate) (outcome Done (restartedOf e) nothing) (dropped e (Dropped R.Turn)) refl refl
+    either-quiet (isState (e .state) Terminate) (outcome Done (restartedOf e) nothing)
+    (dropped e (Dropped R.Turn)) refl refl

@@ -14,7 +14,8 @@ unfolding tickedAll
 ticked-length es t = length-map es (λ e. afterTick e t)
 
 -- a show puts back what the clock step left
-pub shown-table : (es : List Endpoint) (t n : ℕ) → set (tickedAll t es) n (afterTick (endpointAt es n) t) ≡ tickedAll t es
+pub shown-table : (es : List Endpoint) (t n : ℕ)
+    → set (tickedAll t es) n (afterTick (endpointAt es n) t) ≡ tickedAll t es
 unfolding tickedAll endpointAt
 shown-table es t n =
     ap (set (map (λ (e : Endpoint). afterTick e t) es) n)

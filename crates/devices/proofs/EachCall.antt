@@ -166,10 +166,12 @@ module _ (cid : ℕ) (slave : Bool) (m : ℕ) (d₀ : Device) (n : ℕ) (T : Tab
         let x = afterTick e t in
         let a = beforeShow d t (isShort room) n in
         let y = L.shown slave m (shownOf x) took (length log) in
-        let q : callIn d t room (show n) ≡ shownIn x t n d = cond-true (isDone a) (shownIn x t n d) (refusedOf a t n d) h in
+        let q : callIn d t room (show n) ≡ shownIn x t n d =
+        cond-true (isDone a) (shownIn x t n d) (refusedOf a t n d) h in
         let c = show-call e t in
         let v : showsValue cid d (show n) (shownIn x t n d) ≡ not (isFailSafe x) =
-        ap (λ (b : Bool). b && (true && not (isFailSafe x))) (ap (λ (y : Entry). isAt y n) the-entry ∙ eq-eqb n n refl) in
+        ap (λ (b : Bool). b && (true && not (isFailSafe x)))
+        (ap (λ (y : Entry). isAt y n) the-entry ∙ eq-eqb n n refl) in
         record {
           by = S.show;
           endpoint = ap (λ (r : Result). endpointAt (r .device .endpoints) n) q ∙ ticked-at d t n ∙ sym (c .0);

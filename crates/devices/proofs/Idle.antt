@@ -69,6 +69,7 @@ idle-at e t =
       by = restart;
       answer = Dropped R.Turn;
       comes = call-timely e t (act restart) x
-          ∙ cond-false (isState (e .state) Terminate) (outcome Done (restartedOf e) nothing) (dropped e (Dropped R.Turn)) s
+          ∙ cond-false (isState (e .state) Terminate) (outcome Done (restartedOf e) nothing)
+          (dropped e (Dropped R.Turn)) s
           ∙ ap (λ (y : Endpoint). dropped y (Dropped R.Turn)) (sym (tick-timely e t x));
     }))

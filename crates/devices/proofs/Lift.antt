@@ -27,7 +27,7 @@ use Rattle.link.specs.Runs as L
 use Rattle.link.specs.Fresh as F
 use Rattle.link.proofs.AgeProof.{age-theorem}
 use Rattle.devices.specs.Runs.{Call, Event, callIn, Sent, sentAt, frameBy, logged, mayDeliver, handsBytes, tookBy}
-use Rattle.devices.specs.Runs.{shownBy, Run, afterCall, afterEvent, afterAll, begun}
+use Rattle.devices.specs.Runs.{shownBy, Run, deviceAt, afterCall, resultOf, afterEvent, afterAll, begun}
 use Rattle.devices.specs.Demand.{Holds, settingsIn, ItsSend, Fresh, runOf, Demand, Silence}
 use Rattle.devices.proofs.Tables.{Like, like-trans}
 use Rattle.devices.proofs.Loaded.{Table, loaded}
@@ -46,18 +46,22 @@ record Side (d₀ : Device) (n : ℕ) (d : Device) (e : Endpoint) (took took′ 
   took-same : took ≡ took′
 
 -- a call at that end, and the one that does the same to the endpoint
-record Both (cid : ℕ) (slave : Bool) (m : ℕ) (d₀ : Device) (n : ℕ) (d : Device) (t room : ℕ) (call : Call) (sent : List Sent) (log : List L.Entry)
+record Both (cid : ℕ) (slave : Bool) (m : ℕ) (d₀ : Device) (n : ℕ) (d : Device) (t room : ℕ) (call : Call)
+    (sent : List Sent) (log : List L.Entry)
     (e : Endpoint) (took took′ : ℕ) : Type 0 where
   by : S.Call
   side : Side d₀ n (callIn d t room call .device) (L.callOf e t by .endpoint)
-      (tookBy cid sent call (isDone (callIn d t room call .answer)) took) (L.tookBy log by (L.callOf e t by .answer) took′)
-  logs : logged cid slave m call (frameBy call (callIn d t room call .writes)) ≡ toLog (L.logged slave m by (L.callOf e t by .writes))
+      (tookBy cid sent call (isDone (callIn d t room call .answer)) took)
+      (L.tookBy log by (L.callOf e t by .answer) took′)
+  logs : logged cid slave m call (frameBy call (callIn d t room call .writes)) ≡ toLog
+      (L.logged slave m by (L.callOf e t by .writes))
   good : AllGood cid (L.logged slave m by (L.callOf e t by .writes))
   shows : shownBy cid slave d m took (length sent) call (callIn d t room call)
       ≡ L.shownBy slave m took′ (length log) by (L.callOf e t by .endpoint)
   may : L.mayDeliver log by ≡ true
 
-one-step : (cid : ℕ) (slave : Bool) (m : ℕ) (d₀ : Device) (n : ℕ) → Table d₀ cid n → (d : Device) (t room : ℕ) (call : Call) (sent : List Sent)
+one-step : (cid : ℕ) (slave : Bool) (m : ℕ) (d₀ : Device) (n : ℕ) → Table d₀ cid n
+    → (d : Device) (t room : ℕ) (call : Call) (sent : List Sent)
     (log : List L.Entry) (e : Endpoint) (took took′ : ℕ)
     → Side d₀ n d e took took′ → sent ≡ toLog log → AllGood cid log
     → isReading (d .last) t ≡ true → handsBytes call ≡ true → mayDeliver cid sent call ≡ true
@@ -65,7 +69,8 @@ one-step : (cid : ℕ) (slave : Bool) (m : ℕ) (d₀ : Device) (n : ℕ) → Ta
 one-step cid slave m d₀ n T d t room call sent log e took took′ S q good reading bytes may =
     subst (λ (x : ℕ). Both cid slave m d₀ n d t room call sent log e took x) (S .took-same)
     (subst (λ (x : Endpoint). Both cid slave m d₀ n d t room call sent log x took took) (S .here)
-    (subst (λ (x : List Sent). Both cid slave m d₀ n d t room call x log (endpointAt (d .endpoints) n) took took) (sym q)
+    (subst (λ (x : List Sent). Both cid slave m d₀ n d t room call x log (endpointAt (d .endpoints) n) took took)
+    (sym q)
     (let M = matches cid slave m d₀ n T d (S .like) t room reading log good took call bytes
     (ap (λ (x : List Sent). mayDeliver cid x call) (sym q) ∙ may) in
     record {
@@ -113,23 +118,30 @@ module _ (wm ws : List ℕ) (cid : ℕ) (hm : Holds wm cid false) (hs : Holds ws
 
   still-allowed : (l : Run) (x : L.Link) (v : Event) (k : S.Call) → Sim l x → Kept l v → L.mayDeliver (x .log) k ≡ true
       → leb (v .clock) lastReading ≡ true
-      → (x .allowed && (L.mayDeliver (x .log) k && (leb (x .latest) (L.momentOf c (v .slave) (v .clock)) && leb (v .clock) lastReading))) ≡ true
+      → (x .allowed &&
+      (L.mayDeliver (x .log) k && (leb (x .latest) (L.momentOf c (v .slave) (v .clock)) && leb (v .clock) lastReading)))
+      ≡ true
   still-allowed l x v k S kv h lim =
-      both (S .allowed) (both h (both (ap (λ (i : ℕ). leb i (L.momentOf c (v .slave) (v .clock))) (sym (S .latest)) ∙ kv .later) lim))
+      both (S .allowed)
+      (both h (both (ap (λ (i : ℕ). leb i (L.momentOf c (v .slave) (v .clock))) (sym (S .latest)) ∙ kv .later) lim))
 
   record Next (l′ : Run) (x : L.Link) : Type 0 where
     event : L.Event
     sim : Sim l′ (L.afterEvent c x event)
 
+  abbrev eventOf : Bool → ℕ → ℕ → Call → Event
+  eventOf slave t room call = record { slave = slave; clock = t; room = room; call = call }
+
   next : (l : Run) (x : L.Link) (slave : Bool) (t room : ℕ) (call : Call) → Sim l x
-      → isReading (cond slave (l .slave) (l .master) .last) t ≡ true
-      → afterCall cid c l (record { slave = slave; clock = t; room = room; call = call }) (callIn (cond slave (l .slave) (l .master)) t room call) .allowed ≡ true
-      → Next (afterCall cid c l (record { slave = slave; clock = t; room = room; call = call }) (callIn (cond slave (l .slave) (l .master)) t room call)) x
+      → isReading (deviceAt l slave .last) t ≡ true
+      → afterCall cid c l (eventOf slave t room call) (resultOf l (eventOf slave t room call)) .allowed ≡ true
+      → Next (afterCall cid c l (eventOf slave t room call) (resultOf l (eventOf slave t room call))) x
   next l x false t room call S reading h =
-      let v : Event = record { slave = false; clock = t; room = room; call = call } in
+      let v = eventOf false t room call in
       let m = L.momentOf c false t in
       let kv = kept l v (callIn (l .master) t room call) h in
-      let B = one-step cid false m (loadedOf wm .device) (hm .entry) tm (l .master) t room call (l .log) (x .log) (x .master)
+      let B = one-step cid false m (loadedOf wm .device) (hm .entry) tm (l .master) t room call (l .log) (x .log)
+      (x .master)
       (l .masterTook) (x .masterTook) (S .sideM) (S .log) (S .good) reading (kv .bytes) (kv .may) in
       record {
         event = record { slave = false; clock = t; call = B .by };
@@ -144,10 +156,11 @@ module _ (wm ws : List ℕ) (cid : ℕ) (hm : Holds wm cid false) (hs : Holds ws
         };
       }
   next l x true t room call S reading h =
-      let v : Event = record { slave = true; clock = t; room = room; call = call } in
+      let v = eventOf true t room call in
       let m = L.momentOf c true t in
       let kv = kept l v (callIn (l .slave) t room call) h in
-      let B = one-step cid true m (loadedOf ws .device) (hs .entry) ts (l .slave) t room call (l .log) (x .log) (x .slave)
+      let B = one-step cid true m (loadedOf ws .device) (hs .entry) ts (l .slave) t room call (l .log) (x .log)
+      (x .slave)
       (l .slaveTook) (x .slaveTook) (S .sideS) (S .log) (S .good) reading (kv .bytes) (kv .may) in
       record {
         event = record { slave = true; clock = t; call = B .by };
@@ -173,23 +186,25 @@ module _ (wm ws : List ℕ) (cid : ℕ) (hm : Holds wm cid false) (hs : Holds ws
     events : List L.Event
     sim : Sim l (L.afterAll c (L.begun sm ss) events)
 
-  one-more : (x : L.Link) (vs : List L.Event) (v : L.Event) → L.afterAll c x (vs ++ (v ∷ [])) ≡ L.afterEvent c (L.afterAll c x vs) v
+  one-more : (x : L.Link) (vs : List L.Event) (v : L.Event)
+      → L.afterAll c x (vs ++ (v ∷ [])) ≡ L.afterEvent c (L.afterAll c x vs) v
   one-more x [] v = refl
   one-more x (u ∷ vs) v = one-more (L.afterEvent c x u) vs v
 
   -- calls given 1 change nothing
-  accepted : (l : Run) (v : Event) → isReading (cond (v .slave) (l .slave) (l .master) .last) (v .clock) ≡ true
-      → afterEvent cid c l v ≡ afterCall cid c l v (callIn (cond (v .slave) (l .slave) (l .master)) (v .clock) (v .room) (v .call))
+  accepted : (l : Run) (v : Event) → isReading (deviceAt l (v .slave) .last) (v .clock) ≡ true
+      → afterEvent cid c l v ≡ afterCall cid c l v (resultOf l v)
   accepted l v q =
-      ap (λ (b : Bool). cond b (afterCall cid c l v (callIn (cond (v .slave) (l .slave) (l .master)) (v .clock) (v .room) (v .call))) l) q
+      ap (λ (b : Bool). cond b (afterCall cid c l v (resultOf l v)) l) q
 
-  left-out : (l : Run) (v : Event) → isReading (cond (v .slave) (l .slave) (l .master) .last) (v .clock) ≡ false → afterEvent cid c l v ≡ l
+  left-out : (l : Run) (v : Event) → isReading (deviceAt l (v .slave) .last) (v .clock) ≡ false
+      → afterEvent cid c l v ≡ l
   left-out l v q =
-      ap (λ (b : Bool). cond b (afterCall cid c l v (callIn (cond (v .slave) (l .slave) (l .master)) (v .clock) (v .room) (v .call))) l) q
+      ap (λ (b : Bool). cond b (afterCall cid c l v (resultOf l v)) l) q
 
   step : (l : Run) (v : Event) → Lifted l → afterEvent cid c l v .allowed ≡ true → Lifted (afterEvent cid c l v)
   step l v L₀ h =
-      bcase (isReading (cond (v .slave) (l .slave) (l .master) .last) (v .clock))
+      bcase (isReading (deviceAt l (v .slave) .last) (v .clock))
       (λ q.
       let p = accepted l v q in
       let N = next l (L.afterAll c (L.begun sm ss) (L₀ .events)) (v .slave) (v .clock) (v .room) (v .call) (L₀ .sim) q
@@ -205,8 +220,8 @@ module _ (wm ws : List ℕ) (cid : ℕ) (hm : Holds wm cid false) (hs : Holds ws
   allowed-before l [] h = h
   allowed-before l (v ∷ vs) h =
       let a = allowed-before (afterEvent cid c l v) vs h in
-      bcase (isReading (cond (v .slave) (l .slave) (l .master) .last) (v .clock))
-      (λ q. kept l v (callIn (cond (v .slave) (l .slave) (l .master)) (v .clock) (v .room) (v .call)) (ap (λ (r : Run). r .allowed) (sym (accepted l v q)) ∙ a) .before)
+      bcase (isReading (deviceAt l (v .slave) .last) (v .clock))
+      (λ q. kept l v (resultOf l v) (ap (λ (r : Run). r .allowed) (sym (accepted l v q)) ∙ a) .before)
       (λ q. ap (λ (r : Run). r .allowed) (sym (left-out l v q)) ∙ a)
 
   along : (l : Run) (vs : List Event) → Lifted l → afterAll cid c l vs .allowed ≡ true → Lifted (afterAll cid c l vs)
@@ -246,7 +261,8 @@ module _ (wm ws : List ℕ) (cid : ℕ) (hm : Holds wm cid false) (hs : Holds ws
         let e = L.entryAt (x .log) k in
         subst (ItsSend cid bound y) (sym (ap (λ (s : List Sent). sentAt s k) (S .log) ∙ sent-at (x .log) k h)) (record {
           other = w .other;
-          refresh = refresh-of cid (e .fields) (e .body) (g .writable) ∙ both (eq-eqb (e .fields .connection) cid (g .has)) (w .refresh);
+          refresh = refresh-of cid (e .fields) (e .body) (g .writable)
+              ∙ both (eq-eqb (e .fields .connection) cid (g .has)) (w .refresh);
           value = w .value;
           before = w .before;
           young = w .young;
@@ -254,11 +270,14 @@ module _ (wm ws : List ℕ) (cid : ℕ) (hm : Holds wm cid false) (hs : Holds ws
 
     fresh : Fresh cid sm ss l
     fresh = record {
-      there = λ i. subst (λ (z : List L.Show). i < length z → (1 ≤ L.showAt z i .sent) × (L.showAt z i .sent ≤ L.showAt z i .written)
+      there = λ i. subst
+          (λ (z : List L.Show). i < length z → (1 ≤ L.showAt z i .sent) × (L.showAt z i .sent ≤ L.showAt z i .written)
           × (L.showAt z i .written ≤ length (l .log))) (sym (S .shows))
-          (λ h. let r = A .there i h in (r .0, r .1, subst (λ (n : ℕ). L.showAt (x .shows) i .written ≤ n) longs (r .2)));
+          (λ h. let r = A .there i h in
+          (r .0, r .1, subst (λ (n : ℕ). L.showAt (x .shows) i .written ≤ n) longs (r .2)));
       its-send = λ i k. subst (λ (z : List L.Show). i < length z → L.showAt z i .sent ≡ suc k
-          → ItsSend cid (F.boundOf (cond (L.showAt z i .slave) ss sm)) (L.showAt z i) (sentAt (l .log) k)) (sym (S .shows))
+          → ItsSend cid (F.boundOf (cond (L.showAt z i .slave) ss sm)) (L.showAt z i) (sentAt (l .log) k))
+          (sym (S .shows))
           (λ h e. let r = A .there i h in let n : k < length (x .log) = let a = r .1 in let b = r .2 in omega arith in
           sends (L.showAt (x .shows) i) _ k n (A .its-send i k h e));
       in-order = λ i j a. subst (λ (z : List L.Show). j < length z → L.showAt z i .slave ≡ L.showAt z j .slave
@@ -286,7 +305,8 @@ silence wm ws cid hm hs c vs slave last h quiet i k e =
     let w = A .its-send i j k q in
     let n : j < length (l .log) = let a = r .1 in let b = r .2 in omega arith in
     let z = quiet j n (w .other ∙ ap not e) (w .refresh) in
-    let b : F.boundOf (cond (y .slave) (settingsIn hs) (settingsIn hm)) ≡ F.boundOf (cond slave (settingsIn hs) (settingsIn hm)) =
+    let b : F.boundOf (cond (y .slave) (settingsIn hs) (settingsIn hm)) ≡ F.boundOf
+    (cond slave (settingsIn hs) (settingsIn hm)) =
     ap (λ (b : Bool). F.boundOf (cond b (settingsIn hs) (settingsIn hm))) e in
     let v = w .young in
     omega arith

@@ -76,7 +76,8 @@ ticks v h = leb-true v 65535 (and-right (leb 1 v) (leb v 65535) h)
 in-ranges : (ws : List ℕ) (i : ℕ) → isConnectionAt ws i ≡ true → Ticks (settingsAt ws i)
 unfolding isConnectionAt settingsAt
 in-ranges ws i h =
-    let a = and-right (hasKinds (wordOf ws i 0) (wordOf ws i 1) (wordOf ws i 2) (wordOf ws i 3) (wordOf ws i 4) (wordOf ws i 5) (wordOf ws i 6)) _ h in
+    let a = and-right (hasKinds (wordOf ws i 0) (wordOf ws i 1) (wordOf ws i 2) (wordOf ws i 3) (wordOf ws i 4)
+    (wordOf ws i 5) (wordOf ws i 6)) _ h in
     let b = and-right (ltb (restOf (wordOf ws i 0)) 65536) _ a in
     let c = and-right (ltb (restOf (wordOf ws i 1)) 65536) _ b in
     let d = and-right (not (eqb (restOf (wordOf ws i 0)) (restOf (wordOf ws i 1)))) _ c in
@@ -114,7 +115,8 @@ fresh-at ws zero i h k = absurd (not-suc-le-zero k)
 fresh-at ws (suc n) i h k =
     let l : n < length (freshUpTo ws n) = let z = fresh-length ws n in omega arith in
     elim (decLt i n) [
-      | yes g ↦ getD-set-other (freshUpTo ws n) n i (freshOf (settingsAt ws n)) (freshOf noSettings) (λ e. absurd (omega (arith, e)))
+      | yes g ↦ getD-set-other (freshUpTo ws n) n i (freshOf (settingsAt ws n)) (freshOf noSettings)
+          (λ e. absurd (omega (arith, e)))
           ∙ fresh-at ws n i (omega arith) g
       | no g ↦ let e : n ≡ i = omega arith in ap (λ (j : ℕ). getD (freshUpTo ws (suc n)) j (freshOf noSettings)) (sym e)
           ∙ getD-set-same (freshUpTo ws n) n (freshOf (settingsAt ws n)) (freshOf noSettings) l
@@ -139,7 +141,8 @@ pub record Table (d : Device) (cid n : ℕ) : Type 0 where
   pub ticks : Ticks (endpointAt (d .endpoints) n .settings)
   pub has : endpointAt (d .endpoints) n .settings .connection ≡ cid
   pub fits : (i : ℕ) → i < d .count → i < 8 → SettingsFit (endpointAt (d .endpoints) i .settings)
-  pub others : (i : ℕ) → i < d .count → i < 8 → (i ≡ n → ⊥) → endpointAt (d .endpoints) i .settings .connection ≡ cid → ⊥
+  pub others : (i : ℕ) → i < d .count → i < 8 → (i ≡ n → ⊥) → endpointAt (d .endpoints) i .settings .connection ≡ cid
+      → ⊥
 
 are-connections : (ws : List ℕ) → isList ws ≡ true → areConnections ws (countOf ws) ≡ true
 unfolding isList
@@ -153,15 +156,18 @@ same-cid : (ws : List ℕ) (i : ℕ) → settingsAt ws i .connection ≡ connect
 unfolding settingsAt connectionAt
 same-cid ws i = refl
 
-loaded-table : (ws : List ℕ) (cid n : ℕ) → isList ws ≡ true → entryOf cid (countOf ws) (freshUpTo ws (countOf ws)) ≡ At n
+loaded-table : (ws : List ℕ) (cid n : ℕ) → isList ws ≡ true
+    → entryOf cid (countOf ws) (freshUpTo ws (countOf ws)) ≡ At n
     → Table (tableOf ws) cid n
 unfolding tableOf
 loaded-table ws cid n l h =
     let es = freshUpTo ws (countOf ws) in
     let c8 = count-le ws l in
     let f = entry-found cid (countOf ws) n es h in
-    let at : (i : ℕ) → i < countOf ws → endpointAt es i ≡ freshOf (settingsAt ws i) = λ i k. fresh-at ws (countOf ws) i c8 k in
-    let set-at : (i : ℕ) → i < countOf ws → endpointAt es i .settings ≡ settingsAt ws i = λ i k. ap (λ (e : Endpoint). e .settings) (at i k) in
+    let at : (i : ℕ) → i < countOf ws → endpointAt es i ≡ freshOf (settingsAt ws i) =
+    λ i k. fresh-at ws (countOf ws) i c8 k in
+    let set-at : (i : ℕ) → i < countOf ws → endpointAt es i .settings ≡ settingsAt ws i =
+    λ i k. ap (λ (e : Endpoint). e .settings) (at i k) in
     let cid-at : (i : ℕ) → i < countOf ws → endpointAt es i .settings .connection ≡ connectionAt ws i =
     λ i k. ap (λ (s : Settings). s .connection) (set-at i k) ∙ same-cid ws i in
     record {
@@ -180,7 +186,9 @@ loaded-table ws cid n l h =
 
 loaded-is : (ws : List ℕ) → isList ws ≡ true → loadedOf ws .device ≡ tableOf ws
 unfolding tableOf
-loaded-is ws h = ap (λ (b : Bool). cond {A = Loaded} b (record { answer = Done; device = tableOf ws }) (record { answer = Dropped R.Settings; device = unloaded }) .device) h
+loaded-is ws h =
+    ap (λ (b : Bool). cond {A = Loaded} b (record { answer = Done; device = tableOf ws })
+    (record { answer = Dropped R.Settings; device = unloaded }) .device) h
 
 pub loaded : (ws : List ℕ) (cid n : ℕ) → loadedOf ws .answer ≡ Done
     → entryOf cid (loadedOf ws .device .count) (loadedOf ws .device .endpoints) ≡ At n

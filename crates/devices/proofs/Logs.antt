@@ -23,10 +23,12 @@ use Rattle.devices.specs.Runs.{lastOf}
 pub bytes-of : (s : List ℕ) → areBytes s ≡ true → Bytes s
 unfolding areBytes
 bytes-of [] h = none
-bytes-of (b ∷ s) h = more (ltb-true b 256 (and-left (ltb b 256) (areBytes s) h)) (bytes-of s (and-right (ltb b 256) (areBytes s) h))
+bytes-of (b ∷ s) h = more (ltb-true b 256 (and-left (ltb b 256) (areBytes s) h))
+    (bytes-of s (and-right (ltb b 256) (areBytes s) h))
 
 -- ---- a written frame, as the reader takes it
-pub frame-of : (cid : ℕ) (f : Fields) (body : List ℕ) → Writable f body → isFrameOf cid (frameBytes f body) ≡ eqb (f .connection) cid
+pub frame-of : (cid : ℕ) (f : Fields) (body : List ℕ) → Writable f body
+    → isFrameOf cid (frameBytes f body) ≡ eqb (f .connection) cid
 frame-of cid f body w = ap (isOf cid) (round-trip .there f body w .0)
 
 pub refresh-of : (cid : ℕ) (f : Fields) (body : List ℕ) → Writable f body
@@ -83,7 +85,8 @@ beq-refl false = refl
 fields-refl : (f : Fields) → L.sameFields f f ≡ true
 unfolding L.sameFields
 fields-refl f =
-    both (eq-eqb (codeOf (f .command)) _ refl) (both (beq-refl (f .ack)) (both (beq-refl (f .busy)) (both (beq-refl (f .error))
+    both (eq-eqb (codeOf (f .command)) _ refl)
+    (both (beq-refl (f .ack)) (both (beq-refl (f .busy)) (both (beq-refl (f .error))
     (both (beq-refl (f .sequence)) (both (beq-refl (f .application)) (both (eq-eqb (sessionBits (f .session)) _ refl)
     (both (eq-eqb (f .connection) _ refl) (both (eq-eqb (f .timestamp) _ refl) (eq-eqb (f .baseline) _ refl)))))))))
 

@@ -179,7 +179,8 @@ module _ (cid : ℕ) (slave : Bool) (m : ℕ) (d₀ : Device) (n : ℕ) (T : Tab
         let q : callIn d t room call ≡ refusedOf a t k d = E .is
         ∙ cond-false (isDone a) (actedOf (does k) t k d) (refusedOf a t k d) h in
         idle call (ap (λ (r : Result). endpointAt (r .device .endpoints) n) q ∙ clocked-at)
-        (ap (λ (r : Result). isFrameOf cid (frameBy call (r .writes))) q ∙ ap (isFrameOf cid) (E .frames []) ∙ empty cid)
+        (ap (λ (r : Result). isFrameOf cid (frameBy call (r .writes))) q ∙ ap (isFrameOf cid) (E .frames [])
+        ∙ empty cid)
         (E .no-show (callIn d t room call))
         (ap (λ (b : Bool). tookBy cid (toLog log) call b took) (ap (λ (r : Result). isDone (r .answer)) q ∙ h)
         ∙ E .took-none)

@@ -53,7 +53,8 @@ pub settings-at : (es : List Endpoint) (i : ℕ) → endpointAt es i .settings �
 unfolding endpointAt
 settings-at es i = sym (List·getD-map (λ (e : Endpoint). e .settings) es i (freshOf noSettings))
 
-pub like-at : {d d′ : Device} → Like d d′ → (i : ℕ) → endpointAt (d .endpoints) i .settings ≡ endpointAt (d′ .endpoints) i .settings
+pub like-at : {d d′ : Device} → Like d d′ → (i : ℕ)
+    → endpointAt (d .endpoints) i .settings ≡ endpointAt (d′ .endpoints) i .settings
 like-at {d} {d′} l i =
     settings-at (d .endpoints) i ∙ ap (λ (s : List Settings). getD s i noSettings) (l .settings)
     ∙ sym (settings-at (d′ .endpoints) i)
@@ -64,19 +65,23 @@ like-length {d} {d′} l =
     ∙ length-map (d′ .endpoints) (λ (e : Endpoint). e .settings)
 
 -- ---- what stands at a place
-pub ticked-at : (d : Device) (t i : ℕ) → endpointAt (clockStep t d .endpoints) i ≡ afterTick (endpointAt (d .endpoints) i) t
+pub ticked-at : (d : Device) (t i : ℕ)
+    → endpointAt (clockStep t d .endpoints) i ≡ afterTick (endpointAt (d .endpoints) i) t
 unfolding tickedAll endpointAt
 ticked-at d t i = List·getD-map (λ (e : Endpoint). afterTick e t) (d .endpoints) i (freshOf noSettings)
 
-pub placed-here : (d : Device) (n : ℕ) (e : Endpoint) → n < length (d .endpoints) → endpointAt (placed n e d .endpoints) n ≡ e
+pub placed-here : (d : Device) (n : ℕ) (e : Endpoint) → n < length (d .endpoints)
+    → endpointAt (placed n e d .endpoints) n ≡ e
 unfolding endpointAt
 placed-here d n e h = getD-set-same (d .endpoints) n e (freshOf noSettings) h
 
-pub placed-there : (d : Device) (n i : ℕ) (e : Endpoint) → (i ≡ n → ⊥) → endpointAt (placed n e d .endpoints) i ≡ endpointAt (d .endpoints) i
+pub placed-there : (d : Device) (n i : ℕ) (e : Endpoint) → (i ≡ n → ⊥)
+    → endpointAt (placed n e d .endpoints) i ≡ endpointAt (d .endpoints) i
 unfolding endpointAt
 placed-there d n i e h = getD-set-other (d .endpoints) n i e (freshOf noSettings) h
 
-pub like-placed : (d : Device) (n : ℕ) (e : Endpoint) → e .settings ≡ endpointAt (d .endpoints) n .settings → Like (placed n e d) d
+pub like-placed : (d : Device) (n : ℕ) (e : Endpoint) → e .settings ≡ endpointAt (d .endpoints) n .settings
+    → Like (placed n e d) d
 unfolding endpointAt
 like-placed d n e h = record {
   counts = refl;
@@ -94,10 +99,12 @@ find-in n cid zero es = refl
 find-in n cid (suc count) [] = refl
 find-in n cid (suc count) (e ∷ es) = ap (cond (eqb (e .settings .connection) cid) (At n)) (find-in (suc n) cid count es)
 
-pub entry-like : {d d′ : Device} → Like d d′ → (cid : ℕ) → entryOf cid (d .count) (d .endpoints) ≡ entryOf cid (d′ .count) (d′ .endpoints)
+pub entry-like : {d d′ : Device} → Like d d′ → (cid : ℕ)
+    → entryOf cid (d .count) (d .endpoints) ≡ entryOf cid (d′ .count) (d′ .endpoints)
 unfolding entryOf
 entry-like {d} {d′} l cid =
-    find-in 0 cid (d .count) (d .endpoints) ∙ ap₂ (λ (n : ℕ) (s : List Settings). findIn 0 cid (take n s)) (l .counts) (l .settings)
+    find-in 0 cid (d .count) (d .endpoints)
+    ∙ ap₂ (λ (n : ℕ) (s : List Settings). findIn 0 cid (take n s)) (l .counts) (l .settings)
     ∙ sym (find-in 0 cid (d′ .count) (d′ .endpoints))
 
 -- the place that an entry names
@@ -121,16 +128,25 @@ record FoundFrom (k cid count n : ℕ) (es : List Endpoint) : Type 0 where
   within : place < length es
   has : getD es place (freshOf noSettings) .settings .connection ≡ cid
 
-found-from : (k cid count n : ℕ) (es : List Endpoint) → findFrom k cid (take count es) ≡ At n → FoundFrom k cid count n es
+found-from : (k cid count n : ℕ) (es : List Endpoint) → findFrom k cid (take count es) ≡ At n
+    → FoundFrom k cid count n es
 unfolding findFrom isAbsent
 found-from k cid zero n es h = absurd (true≢false (ap isAbsent h))
 found-from k cid (suc count) n [] h = absurd (true≢false (ap isAbsent h))
 found-from k cid (suc count) n (e ∷ es) h =
     bcase (eqb (e .settings .connection) cid)
     (λ q. let z : k ≡ n = ap at (sym (ap (λ (b : Bool). cond b (At k) (findFrom (suc k) cid (take count es))) q) ∙ h) in
-    record { place = 0; is = omega arith; counted = omega arith; within = omega arith; has = eqb-true (e .settings .connection) cid q })
+    record {
+      place = 0;
+      is = omega arith;
+      counted = omega arith;
+      within = omega arith;
+      has = eqb-true
+          (e .settings .connection) cid q;
+    })
     (λ q.
-    let z = found-from (suc k) cid count n es (sym (ap (λ (b : Bool). cond b (At k) (findFrom (suc k) cid (take count es))) q) ∙ h) in
+    let z = found-from (suc k) cid count n es
+    (sym (ap (λ (b : Bool). cond b (At k) (findFrom (suc k) cid (take count es))) q) ∙ h) in
     record {
       place = suc (z .place);
       is = let y = z .is in omega arith;

@@ -42,7 +42,8 @@ ageless = settingsOf 0x0102 0x0103 0x021 100 50 0 7
 
 -- an endpoint in a state since some reading, with what it has measured and its ts_offset
 abbrev endpointIn : Settings → State → ℕ → ℕ → ℕ → Endpoint
-endpointIn s state since measured offset = inState state (timedFrom since (withSetup Nothing measured offset (freshOf s)))
+endpointIn s state since measured offset =
+    inState state (timedFrom since (withSetup Nothing measured offset (freshOf s)))
 
 abbrev word : List ℕ
 word = 0 ∷ 0 ∷ 0 ∷ 1 ∷ []

@@ -185,11 +185,13 @@ afterCall cid c l v r =
       allowed = l .allowed && (handsBytes (v .call) && (mayDeliver cid (l .log) (v .call) && leb (l .latest) m));
     }
 
+abbrev pub resultOf : Run → Event → Result
+resultOf l v = callIn (deviceAt l (v .slave)) (v .clock) (v .room) (v .call)
+
 -- calls given 1 are left out: they change nothing
 abbrev pub afterEvent : ℕ → Clocks → Run → Event → Run
 afterEvent cid c l v =
-    let d = deviceAt l (v .slave) in
-    cond (isReading (d .last) (v .clock)) (afterCall cid c l v (callIn d (v .clock) (v .room) (v .call))) l
+    cond (isReading (deviceAt l (v .slave) .last) (v .clock)) (afterCall cid c l v (resultOf l v)) l
 
 unfoldable pub afterAll : ℕ → Clocks → Run → List Event → Run
 afterAll cid c l [] = l

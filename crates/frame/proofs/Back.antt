@@ -51,7 +51,8 @@ module _ (f : Fields) (start end : ℕ) where
       record { alike = same-eq a b (p .0); checked = q .0; formed = r .0; fields = cc; starts = cc; ends = cc }
 
 -- the body of a frame stands within its bytes
-pub within : (s : List ℕ) (f : Fields) (start end : ℕ) → readingOf s ≡ Frame f start end → (start ≤ end) × (end ≤ length s)
+pub within : (s : List ℕ) (f : Fields) (start end : ℕ) → readingOf s ≡ Frame f start end
+    → (start ≤ end) × (end ≤ length s)
 unfolding readingOf
 within s f start end h =
     let n : ℕ = length s / 2 in

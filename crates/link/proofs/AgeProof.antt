@@ -108,8 +108,10 @@ module _ (c : Clocks) (sm ss : Settings) (p : Paired sm ss) where
             (tookBy (l .log) call (callOf (l .master) t call .answer) (l .masterTook)) (l .slaveTook)
             (l .shows ++ shownBy false (t + c .master) (l .masterTook) (length (l .log)) call
             (callOf (l .master) t call .endpoint)) (A .1) (omega arith)
-            (adds false (l .log) (l .master) (l .masterTook) (l .slaveTook) (t + c .master) t (l .shows) call (L .honest)
-            (λ x f. subst (λ (b : ℕ). ShownAt (marks (l .log)) 2 (l .masterTook) (t + c .master) b (shownOf (l .master)))
+            (adds false (l .log) (l .master) (l .masterTook) (l .slaveTook) (t + c .master) t (l .shows) call
+            (L .honest)
+            (λ x f. subst
+            (λ (b : ℕ). ShownAt (marks (l .log)) 2 (l .masterTook) (t + c .master) b (shownOf (l .master)))
             bound-m (shown-m c sm ss p t lim L x f)) (v .shown));
       }
   step l true t call h k lim v =

@@ -84,7 +84,8 @@ module _ (c : Clocks) (sm ss : Settings) (p : Paired sm ss) {l : List Entry} {em
   -- S-Refresh with the lent value
   module _ (value : List ℕ) (d : RefreshSent es t value) where
     abbrev pub refreshing : Entry
-    refreshing = record { slave = true; moment = t + c .slave; fields = refreshFields es t; body = value; lent = some value }
+    refreshing =
+        record { slave = true; moment = t + c .slave; fields = refreshFields es t; body = value; lent = some value }
 
     refresh-mark : markOf refreshing ≡ mark 2 255 ((t + es .setup .offset) % span) 0 (t + c .slave) value
     refresh-mark = λ i. mark (cond (role i) 2 0) 255 (time i) 0 (t + c .slave) value

@@ -64,7 +64,8 @@ module _ (e : Endpoint) (t : ℕ) where
       (λ d. rw d (bcase (isState (e .state) Refresh)
       (λ k. rw k (plain-typed _ _ _ _ _ _ _ value (h .connection) (lit< tt) r))
       (λ k. rw k (plain-typed _ _ _ _ _ _ _ (setupData (e .settings) (requestOf (e .state))) (h .connection)
-      (baseline-fits (requestOf (e .state)) t (e .setup .measured)) (data-bytes (e .settings) (requestOf (e .state)) h)))))
+      (baseline-fits (requestOf (e .state)) t (e .setup .measured))
+      (data-bytes (e .settings) (requestOf (e .state)) h)))))
 
   pub stop-typed : SettingsFit (e .settings) → IsTyped (stopOf e t .writes)
   stop-typed h =
@@ -90,5 +91,6 @@ module _ (e : Endpoint) (t : ℕ) where
       (λ q. bcase (is (f .command) K.Refresh)
       (λ k. subst (λ (o : Outcome). IsTyped (o .writes)) (sym (deliver-refresh e t f body q k)) tt)
       (λ k. bcase (e .settings .slave)
-      (λ m. subst (λ (o : Outcome). IsTyped (o .writes)) (sym (deliver-request e t f body q k m)) (replied-typed f body h r))
+      (λ m. subst (λ (o : Outcome). IsTyped (o .writes)) (sym (deliver-request e t f body q k m))
+      (replied-typed f body h r))
       (λ m. subst (λ (o : Outcome). IsTyped (o .writes)) (sym (deliver-reply e t f body q k m)) tt)))

@@ -91,7 +91,8 @@ abbrev pub advancedOf : Endpoint → ℕ → Fields → Endpoint
 advancedOf e t f =
     inState (stateTo (nextOf (f .command) (e .state)) (e .state))
     (timedFrom t (withTimestamps (acceptedOf e (f .timestamp))
-    (withSetup (e .setup .pending) (measuredBy (f .command) t (e .setup .measured)) (offsetBy e f) (holding noValue e))))
+    (withSetup (e .setup .pending) (measuredBy (f .command) t (e .setup .measured)) (offsetBy e f)
+    (holding noValue e))))
 
 -- what a request that is done leaves
 abbrev pub takenOf : Endpoint → ℕ → Fields → Endpoint

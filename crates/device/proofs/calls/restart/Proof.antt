@@ -15,7 +15,8 @@ returns c =
     let i = c .before in
     let b = i .before .before in
     let a = b .before .before .before .args in
-    refused-plain (a .clock) (a .n) (a .device) _ (beforeEntry (a .device) (a .clock) false (a .n)) (b .before-entry .result)
+    refused-plain (a .clock) (a .n) (a .device) _ (beforeEntry (a .device) (a .clock) false (a .n))
+    (b .before-entry .result)
     (rw (← b .before .endpoint-at .ensures) (b .before-entry .ensures)) (c .refused .result)
     (sym (i .before .is-done .ensures) ∙ not-true _ (i .if1 .taken)) (c .refused .ensures)
 
@@ -28,7 +29,8 @@ returns-2 c =
     let a = p .before .before .args in
     acted-plain (λ e. restartOf e) (a .device) (a .clock) (a .n) false (b .before-entry .result) (s .restart .result)
     (c .acted .result) (rw (← p .endpoint-at .ensures) (b .before-entry .ensures))
-    (sym (i .before .is-done .ensures) ∙ not-false _ (i .if1 .left)) (restart-quiet (endpointAt (a .device .endpoints) (a .n)))
+    (sym (i .before .is-done .ensures) ∙ not-false _ (i .if1 .left))
+    (restart-quiet (endpointAt (a .device .endpoints) (a .n)))
     (rw (← p .endpoint-at .ensures) (s .restart .ensures)) (c .acted .ensures)
 
 pub restart-spec : {M : Type 1} → statement M

@@ -15,8 +15,10 @@ returns c =
     let b = i .before .before in
     let p = b .before in
     let a = p .before .before .before .before .args in
-    refused-says (a .clock) (a .n) (a .device) _ (beforeEntry (a .device) (a .clock) (isShort (length (a .out .now))) (a .n))
-    (b .before-entry .result) (rw (← p .endpoint-at .ensures) (b .before-entry .ensures)) (a .out .now) (c .refused .result)
+    refused-says (a .clock) (a .n) (a .device) _
+    (beforeEntry (a .device) (a .clock) (isShort (length (a .out .now))) (a .n))
+    (b .before-entry .result) (rw (← p .endpoint-at .ensures) (b .before-entry .ensures)) (a .out .now)
+    (c .refused .result)
     (sym (i .before .is-done .ensures) ∙ not-true _ (i .if1 .taken)) (c .refused .ensures)
 
 returns-2 : tie.Need-returns-2
@@ -26,7 +28,8 @@ returns-2 c =
     let b = i .before .before in
     let p = b .before in
     let a = p .before .before .before .before .args in
-    acted-says (λ e. sendOf e (a .clock) (a .value .now)) (a .device) (a .clock) (a .n) (a .out .now) _ (b .before-entry .result)
+    acted-says (λ e. sendOf e (a .clock) (a .value .now)) (a .device) (a .clock) (a .n) (a .out .now) _
+    (b .before-entry .result)
     (s .send .result) (c .acted .result) (rw (← p .endpoint-at .ensures) (b .before-entry .ensures))
     (sym (i .before .is-done .ensures) ∙ not-false _ (i .if1 .left))
     (rw (← p .endpoint-at .ensures) (s .send .ensures)) (c .acted .ensures)

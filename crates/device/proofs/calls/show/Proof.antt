@@ -33,7 +33,13 @@ returns-2 c =
     (rw (← e .admitted-entry .ensures) (b .admitted .ensures))
     (sym (i .before .is-done .ensures) ∙ not-false _ (i .if1 .left))
     (rw (← p .endpoint-at .ensures, ← k .tick .ensures) (s .show .ensures))
-    (rw (c .ticked-with .ensures, k .tick .ensures, p .endpoint-at .ensures, shown-table (a .device .endpoints) (a .clock) (a .n)))
+    (rw (
+      c .ticked-with .ensures,
+      k .tick .ensures,
+      p .endpoint-at .ensures,
+      shown-table (a .device .endpoints)
+          (a .clock) (a .n),
+    ))
 
 pub show-spec : {M : Type 1} → statement M
 show-spec =

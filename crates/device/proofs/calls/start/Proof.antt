@@ -15,7 +15,8 @@ returns c =
     let i = c .before in
     let b = i .before .before in
     let a = b .before .before .before .args in
-    refused-plain (a .clock) (a .n) (a .device) _ (beforeEntry (a .device) (a .clock) false (a .n)) (b .before-entry .result)
+    refused-plain (a .clock) (a .n) (a .device) _ (beforeEntry (a .device) (a .clock) false (a .n))
+    (b .before-entry .result)
     (rw (← b .before .endpoint-at .ensures) (b .before-entry .ensures)) (c .refused .result)
     (sym (i .before .is-done .ensures) ∙ not-true _ (i .if1 .taken)) (c .refused .ensures)
 
@@ -26,9 +27,11 @@ returns-2 c =
     let b = i .before .before in
     let p = b .before in
     let a = p .before .before .args in
-    acted-plain (λ e. startOf e (a .clock)) (a .device) (a .clock) (a .n) false (b .before-entry .result) (s .start .result)
+    acted-plain (λ e. startOf e (a .clock)) (a .device) (a .clock) (a .n) false (b .before-entry .result)
+    (s .start .result)
     (c .acted .result) (rw (← p .endpoint-at .ensures) (b .before-entry .ensures))
-    (sym (i .before .is-done .ensures) ∙ not-false _ (i .if1 .left)) (start-quiet (endpointAt (a .device .endpoints) (a .n)) (a .clock))
+    (sym (i .before .is-done .ensures) ∙ not-false _ (i .if1 .left))
+    (start-quiet (endpointAt (a .device .endpoints) (a .n)) (a .clock))
     (rw (← p .endpoint-at .ensures) (s .start .ensures)) (c .acted .ensures)
 
 pub start-spec : {M : Type 1} → statement M

@@ -13,7 +13,8 @@ use Rattle.device.proofs.deliver.deliver.Statement.{statement}
 use Rattle.device.proofs.deliver.deliver.Tie as tie
 
 -- the part of a slice, as the code takes it
-part : (s : List ℕ) (start end : ℕ) → start ≤ end → end ≤ length s → slice start end s ≡ take (end - start) (drop start s)
+part : (s : List ℕ) (start end : ℕ) → start ≤ end → end ≤ length s
+    → slice start end s ≡ take (end - start) (drop start s)
 part s start end h k =
     let e : start + (end - start) ≡ end = omega arith in
     ap (λ (n : ℕ). slice start n s) (sym e) ∙ slice-from start (end - start) s (omega arith)

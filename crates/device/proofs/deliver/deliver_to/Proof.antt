@@ -18,7 +18,8 @@ returns c =
     let a = f .before .before .before .before .args in
     rw (f .found .given .1)
     (refused-says (a .clock) _ (a .device) _ (beforeEntry (a .device) (a .clock) (isShort (length (a .out .now))) _)
-    (b .before-entry .result) (rw (← p .endpoint-at .ensures) (b .before-entry .ensures)) (a .out .now) (c .refused2 .result)
+    (b .before-entry .result) (rw (← p .endpoint-at .ensures) (b .before-entry .ensures)) (a .out .now)
+    (c .refused2 .result)
     (sym (i .before .is-done .ensures) ∙ not-true _ (i .if1 .taken)) (c .refused2 .ensures))
 
 returns-2 : tie.Need-returns-2
@@ -37,8 +38,10 @@ returns-3 c =
     let f = p .before .before .before in
     let a = f .before .before .before .before .args in
     rw (f .found .given .1)
-    (acted-says (λ e. deliverOf e (a .clock) (a .fields) (a .body .now)) (a .device) (a .clock) (f .found .given .0 .0) (a .out .now) _
-    (b .before-entry .result) (s .deliver .result) (c .acted .result) (rw (← p .endpoint-at .ensures) (b .before-entry .ensures))
+    (acted-says (λ e. deliverOf e (a .clock) (a .fields) (a .body .now)) (a .device) (a .clock) (f .found .given .0 .0)
+    (a .out .now) _
+    (b .before-entry .result) (s .deliver .result) (c .acted .result)
+    (rw (← p .endpoint-at .ensures) (b .before-entry .ensures))
     (sym (i .before .is-done .ensures) ∙ not-false _ (i .if1 .left))
     (rw (← p .endpoint-at .ensures) (s .deliver .ensures)) (c .acted .ensures))
 

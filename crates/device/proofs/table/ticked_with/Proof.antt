@@ -37,7 +37,8 @@ blank = record {
 }
 
 abbrev Inv-loop : tie.InvT-loop
-Inv-loop clock n endpoint ticked₀ i₀ ticked i = (i ≤ 8) × (length ticked₀ ≡ 8) × (ticked ≡ upTo (λ e. afterTick e clock) i ticked₀)
+Inv-loop clock n endpoint ticked₀ i₀ ticked i = (i ≤ 8) × (length ticked₀ ≡ 8)
+    × (ticked ≡ upTo (λ e. afterTick e clock) i ticked₀)
 
 abbrev μ-loop : tie.MeasureT-loop
 μ-loop clock n endpoint ticked₀ i₀ ticked i = 8 - i
@@ -61,7 +62,8 @@ loop-again c =
     )
 
 -- the whole table is stepped
-all : (es ticked : List Endpoint) (t i : ℕ) → ticked ≡ upTo (λ e. afterTick e t) i es → length es ≤ i → ticked ≡ tickedAll t es
+all : (es ticked : List Endpoint) (t i : ℕ) → ticked ≡ upTo (λ e. afterTick e t) i es → length es ≤ i
+    → ticked ≡ tickedAll t es
 unfolding tickedAll
 all es ticked t i q h = q ∙ upTo-all (λ e. afterTick e t) es i h
 
