@@ -8,7 +8,6 @@ use native.Mathlib.Omega.{arith}
 use lib.Dec.{leb}
 use borrow.Author.Tests.{eq-eqb}
 use lib.ListN.{length}
-use Rattle.frame.specs.declared.Command.the-variants as K
 use Rattle.frame.proofs.Alike.{and-left, and-right, both}
 use Rattle.endpoint.specs.declared.Settings.{Settings}
 use Rattle.endpoint.specs.declared.Timestamp.{Timestamp}

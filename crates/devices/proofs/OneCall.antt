@@ -32,7 +32,7 @@ use Rattle.device.specs.Tables.{isEntry, endpointAt}
 use Rattle.device.specs.Clock.{isReading, clockStep, afterClock}
 use Rattle.device.specs.Calls.{Result, refusedOf, actedOf, beforeEntry, onEntry}
 use Rattle.link.specs.Runs as L
-use Rattle.devices.specs.Runs.{Call, callIn, isFrameOf, Sent, sent, frameBy, lentTo, logged, tookBy, showsValue}
+use Rattle.devices.specs.Runs.{Call, callIn, isFrameOf, sent, frameBy, lentTo, logged, tookBy, showsValue}
 use Rattle.devices.specs.Runs.{shownBy}
 use Rattle.devices.proofs.Tables.{Like, like-trans, like-tick, like-at, like-length, ticked-at, placed-here}
 use Rattle.devices.proofs.Tables.{placed-there, like-placed}

@@ -1,7 +1,7 @@
 -- Document 01's cases that are proved ("Cases at each edge", the rows marked P): what the definitions give beside
 -- what the paper states.
 use mathlib.Core.Path.{_≡_}
-use mathlib.Core.Bool.{true, false, not, cond}
+use mathlib.Core.Bool.{false, not, cond}
 use mathlib.Core.List.{List, [], _∷_, map}
 use Prim.Native.Nat.{ℕ, _/_, _%_}
 use lib.ListN.{replicate}

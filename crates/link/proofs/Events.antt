@@ -21,7 +21,7 @@ use Rattle.endpoint.specs.declared.Answer.the-variants.{Done, Dropped, Ended}
 use Rattle.endpoint.specs.Answers.{firstOf, isDone, isDropped}
 use Rattle.endpoint.specs.Table.{isState}
 use Rattle.endpoint.specs.Time.{endedOf}
-use Rattle.steps.specs.Frames.{nothing, written}
+use Rattle.steps.specs.Frames.{nothing}
 use Rattle.steps.specs.Calls.{Outcome, outcome, dropped, startedOf, restartedOf, sendFaults, sentOf, sendOf, stopFaults}
 use Rattle.steps.specs.Calls.{stopOf}
 use Rattle.steps.specs.Deliveries.{refreshFaults, refreshedOf, paddedOf, takeRefresh, deliverOf}

@@ -1,9 +1,9 @@
 -- Two endpoints of one CID over a list of calls (document 01, "What demand 3 runs over"), with frames as fields and
 -- bodies.
-use mathlib.Core.Bool.{Bool, true, false, _&&_, not, cond, Bool·beq}
+use mathlib.Core.Bool.{Bool, true, false, _&&_, cond, Bool·beq}
 use mathlib.Core.List.{List, [], _∷_, _++_}
 use mathlib.Core.Option.{Option, some, none}
-use Prim.Native.Nat.{ℕ, suc, _+_, _-_}
+use Prim.Native.Nat.{ℕ, suc, _+_}
 use lib.Dec.{eqb, leb}
 use lib.ListN.{length, getD}
 use Rattle.frame.specs.declared.Command.the-variants as K
@@ -14,7 +14,7 @@ use Rattle.endpoint.specs.declared.Settings.{Settings}
 use Rattle.endpoint.specs.declared.Endpoint.{Endpoint}
 use Rattle.endpoint.specs.declared.Reason.the-variants as R
 use Rattle.endpoint.specs.declared.Answer.{Answer}
-use Rattle.endpoint.specs.declared.Answer.the-variants.{Done, Ended}
+use Rattle.endpoint.specs.declared.Answer.the-variants.{Ended}
 use Rattle.endpoint.specs.Answers.{isDone}
 use Rattle.endpoint.specs.Time.{lastReading, isExpired, endedOf}
 use Rattle.steps.specs.Frames.{Written, nothing, written, plainFields}

@@ -1,12 +1,10 @@
 -- The laws of the calls, all of them.
-use mathlib.Core.Path.{_≡_, refl, sym, ap}
+use mathlib.Core.Path.{_≡_, refl, sym}
 use mathlib.Core.Bool.{_&&_, not}
 use Prim.Native.Nat.{ℕ}
 use Rattle.endpoint.specs.declared.State.the-variants.{Close, Terminate}
 use Rattle.endpoint.specs.declared.Endpoint.{Endpoint}
 use Rattle.endpoint.specs.declared.Reason.{Reason}
-use Rattle.endpoint.specs.declared.Reason.the-variants as R
-use Rattle.endpoint.specs.declared.Answer.{Answer}
 use Rattle.endpoint.specs.declared.Answer.the-variants.{Dropped}
 use Rattle.endpoint.specs.Table.{isState}
 use Rattle.steps.specs.Calls.{dropped}

@@ -14,7 +14,6 @@ use Rattle.endpoint.specs.declared.State.the-variants.{Refresh}
 use Rattle.endpoint.specs.declared.Endpoint.{Endpoint}
 use Rattle.endpoint.specs.Answers.{firstOf, isDropped, isEnded}
 use Rattle.endpoint.specs.Table.{isState, isSetup}
-use Rattle.steps.specs.Frames.{written}
 use Rattle.steps.specs.Calls.{Outcome, isNothing, mayRequest, sendFaults, sendOf, stopFaults, stopOf}
 use Rattle.steps.specs.Deliveries.{requestFaults, repliedOf, deliverOf}
 use Rattle.steps.specs.Laws.{Carries}

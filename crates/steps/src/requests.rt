@@ -2,7 +2,7 @@
 ghost use mathlib.Core.Path.{_≡_};
 ghost use mathlib.Core.List.{_++_};
 ghost use Prim.Native.Nat.{_≤_};
-ghost use lib.ListN.{length, take};
+ghost use lib.ListN.{length};
 ghost use Rattle.frame.specs.Words.{wordBytes};
 ghost use Rattle.frame.specs.Control.{is};
 ghost use Rattle.steps.specs.Frames.{setupData, widthOf, sendWidth, showWidth, timeOf, plainFields, baselineOf};
