@@ -3,7 +3,7 @@ use mathlib.Core.Path.{_≡_, refl, sym, ap, subst, _∙_}
 use mathlib.Core.Bool.{Bool, true, false, cond, true≢false, false≢true}
 use mathlib.Core.List.{List, [], _∷_, _++_}
 use mathlib.Core.Option.{Option, some, none}
-use Prim.Native.Nat.{ℕ, zero, suc, _+_, _-_, _%_, _≤_}
+use Prim.Native.Nat.{ℕ, suc, _+_, _-_, _%_, _≤_}
 use native.Mathlib.Omega.{arith}
 use borrow.Author.Tests.{eqb-true}
 use Rattle.frame.specs.declared.Command.{Command}
@@ -27,15 +27,15 @@ use Rattle.steps.proofs.Dispatch.{cond-false}
 use Rattle.link.specs.Runs.{Clocks, clockLimit, Entry}
 use Rattle.link.specs.Fresh.{Paired}
 use Rattle.link.proofs.Marks.{Mark, mark, at, snoc, Has}
-use Rattle.link.proofs.Invariant.{Terms, Small, MPhase, restM, asked, got, liveM, Master, Inv, MPh, GoOf, Held}
-use Rattle.link.proofs.Invariant.{ValueOf, wobble}
+use Rattle.link.proofs.Invariant.{Terms, Small, MPhase, restM, asked, got, liveM, Master, Inv, MPh, GoOf}
+use Rattle.link.proofs.Invariant.{wobble}
 use Rattle.link.proofs.Kept.{m-phase, m-got, m-writes, m-goes, m-takes, held-rises}
-use Rattle.link.proofs.Relation.{termsOf, small-of, whoOf, markOf, marks, topOf, above-top, Holds, RelM, Honest}
+use Rattle.link.proofs.Relation.{termsOf, small-of, whoOf, markOf, marks, topOf, above-top, RelM, Honest}
 use Rattle.link.proofs.Relation.{Linked, setup-timer, refresh-timer, master-time, young-of}
 use Rattle.link.proofs.Ages.{Young, young-more}
 use Rattle.link.proofs.Entries.{marks-snoc, honest-snoc, is-eq, FoundAt, in-log, the-mark, marked-code}
 use Rattle.link.proofs.Entries.{marked-stamp, marked-body}
-use Rattle.link.proofs.Shown.{ShownAt, in-refresh, is-taken, shown-is}
+use Rattle.link.proofs.Shown.{ShownAt, in-refresh, held-shown}
 use Rattle.link.proofs.Codes.{go-due, go-baseline, request-not-refresh, setup-not-refresh, refresh-not-setup}
 use Rattle.link.proofs.Codes.{pending-setup}
 
@@ -410,31 +410,13 @@ module _ (c : Clocks) (sm ss : Settings) (p : Paired sm ss) {l : List Entry} {em
 
   -- ---- a show that is not fail-safe
   module _ (x : isExpired em t ≡ false) (n : isFailSafe em ≡ false) where
-    held-at : (v : Option (List ℕ)) → Holds (em .settings) (em .value) v → (h : ℕ) → tm ≡ h
-        → Held (marks l) 2 (L .master .nextIn) h
-        → ValueOf (marks l) h (em .since + c .master) (sm .age + sm .roundtrip + wobble) v
-        → ShownAt (marks l) 2 tm (t + c .master) (sm .age + (sm .interval + sm .roundtrip)) (shownOf em)
-    held-at none o h e q w = absurd (true≢false (sym (is-taken em n) ∙ o))
-    held-at (some b) o zero e q w = absurd w
-    held-at (some b) o (suc k) e q w =
-        let u = refresh-timer em t x (in-refresh em n) in
-        let i : em .settings .interval ≡ sm .interval = ap (λ (y : Settings). y .interval) (L .setM) in
-        let z = L .inv .log .stamped k (q .there) .past in
-        let y = w .young in
-        record {
-          place = k;
-          held = e;
-          there = q .there;
-          who = q .fits .who;
-          code = q .fits .code;
-          body = w .body ∙ sym (shown-is em b n o);
-          past = omega arith;
-          young = omega arith;
-        }
-
     pub shown-m : ShownAt (marks l) 2 tm (t + c .master) (sm .age + (sm .interval + sm .roundtrip)) (shownOf em)
     shown-m =
         let v = L .relM .live (in-refresh em n) in
-        held-at (v .value) (v .holds) (L .master .held) (L .relM .held) (L .inv .master .held)
+        let u = refresh-timer em t x (in-refresh em n) in
+        let i : em .settings .interval ≡ sm .interval = ap (λ (y : Settings). y .interval) (L .setM) in
+        subst (λ (b : ℕ). ShownAt (marks l) 2 tm (t + c .master) b (shownOf em)) (omega arith)
+        (held-shown em (marks l) 2 (L .master .nextIn) tm (em .since + c .master) (sm .age + sm .roundtrip + wobble)
+        (t + c .master) (sm .interval) (v .value) (L .master .held) n (v .holds) (L .relM .held) (L .inv .master .held)
         (subst (MPh (termsOf c sm ss) (marks l) (L .master .nextOut) (L .master .held)) (v .phase)
-        (L .inv .master .phase))
+        (L .inv .master .phase)) (λ k z. L .inv .log .stamped k z .past) (omega arith))

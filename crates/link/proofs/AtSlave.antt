@@ -2,8 +2,8 @@
 use mathlib.Core.Path.{_≡_, refl, sym, ap, subst, _∙_}
 use mathlib.Core.Bool.{Bool, true, false, cond, true≢false, false≢true}
 use mathlib.Core.List.{List, [], _∷_, _++_}
-use mathlib.Core.Option.{Option, some, none}
-use Prim.Native.Nat.{ℕ, zero, suc, _+_, _-_, _%_, _≤_, _<_}
+use mathlib.Core.Option.{some, none}
+use Prim.Native.Nat.{ℕ, suc, _+_, _-_, _%_, _≤_, _<_}
 use native.Mathlib.Nat.{mod-eq-of-lt}
 use native.Mathlib.Omega.{arith}
 use borrow.Author.Tests.{eqb-true}
@@ -28,13 +28,13 @@ use Rattle.link.specs.Runs.{Clocks, clockLimit, Entry}
 use Rattle.link.specs.Fresh.{Paired}
 use Rattle.link.proofs.Marks.{Mark, mark, at, snoc}
 use Rattle.link.proofs.Ages.{Young}
-use Rattle.link.proofs.Invariant.{SPhase, restS, armed, liveS, Slave, Inv, SPh, Held, LiveS, wobble}
+use Rattle.link.proofs.Invariant.{SPhase, restS, armed, liveS, Slave, Inv, SPh, LiveS, wobble}
 use Rattle.link.proofs.Kept.{s-phase, s-hears, s-replies, s-arms, s-goes, s-sends, s-takes, held-rises}
-use Rattle.link.proofs.Relation.{termsOf, small-of, markOf, marks, topOf, above-top, Holds, RelS, Honest, Linked}
+use Rattle.link.proofs.Relation.{termsOf, small-of, markOf, marks, topOf, above-top, RelS, Honest, Linked}
 use Rattle.link.proofs.Relation.{setup-timer, refresh-timer, slave-time, young-of}
 use Rattle.link.proofs.Entries.{marks-snoc, honest-snoc, FoundAt, in-log, the-mark, marked-code, marked-stamp}
 use Rattle.link.proofs.Entries.{marked-body}
-use Rattle.link.proofs.Shown.{ShownAt, in-refresh, is-taken, shown-is}
+use Rattle.link.proofs.Shown.{ShownAt, in-refresh, held-shown}
 use Rattle.link.proofs.Codes.{refresh-not-setup, pending-setup, targetOf, leads, go-from}
 
 module _ (c : Clocks) (sm ss : Settings) (p : Paired sm ss) {l : List Entry} {em es : Endpoint} {tm ts : ℕ} (t : ℕ)
@@ -386,32 +386,16 @@ module _ (c : Clocks) (sm ss : Settings) (p : Paired sm ss) {l : List Entry} {em
 
   -- ---- a show that is not fail-safe
   module _ (x : isExpired es t ≡ false) (n : isFailSafe es ≡ false) where
-    held-at : (v : Option (List ℕ)) → Holds (es .settings) (es .value) v → (h : ℕ) → ts ≡ h
-        → Held (marks l) 0 (L .slave .nextIn) h
-        → LiveS (termsOf c sm ss) (marks l) (L .slave .nextIn) h (es .setup .offset) (es .since) v
-        → ShownAt (marks l) 0 ts (t + c .slave) (ss .age + (ss .interval + 0)) (shownOf es)
-    held-at none o h e q w = absurd (true≢false (sym (is-taken es n) ∙ o))
-    held-at (some b) o zero e q w = absurd (w .value)
-    held-at (some b) o (suc k) e q w =
-        let u = refresh-timer es t x (in-refresh es n) in
-        let i : es .settings .interval ≡ ss .interval = ap (λ (y : Settings). y .interval) (L .setS) in
-        let z = L .inv .log .stamped k (q .there) .past in
-        let v = w .value in
-        let y = v .young in
-        let a = w .at′ in
-        record {
-          place = k;
-          held = e;
-          there = q .there;
-          who = q .fits .who;
-          code = q .fits .code;
-          body = v .body ∙ sym (shown-is es b n o);
-          past = omega arith;
-          young = omega arith;
-        }
-
     pub shown-s : ShownAt (marks l) 0 ts (t + c .slave) (ss .age + (ss .interval + 0)) (shownOf es)
     shown-s =
         let v = L .relS .live (in-refresh es n) in
-        held-at (v .value) (v .holds) (L .slave .held) (L .relS .held) (L .inv .slave .held)
-        (subst (SPh (termsOf c sm ss) (marks l) (L .slave .nextIn) (L .slave .held)) (v .phase) (L .inv .slave .phase))
+        let w : LiveS (termsOf c sm ss) (marks l) (L .slave .nextIn) (L .slave .held) (es .setup .offset) (es .since)
+        (v .value) = subst (SPh (termsOf c sm ss) (marks l) (L .slave .nextIn) (L .slave .held)) (v .phase)
+        (L .inv .slave .phase) in
+        let a = w .at′ in
+        let u = refresh-timer es t x (in-refresh es n) in
+        let i : es .settings .interval ≡ ss .interval = ap (λ (y : Settings). y .interval) (L .setS) in
+        subst (λ (b : ℕ). ShownAt (marks l) 0 ts (t + c .slave) b (shownOf es)) (omega arith)
+        (held-shown es (marks l) 0 (L .slave .nextIn) ts (w .m) (ss .age + wobble) (t + c .slave) (ss .interval)
+        (v .value) (L .slave .held) n (v .holds) (L .relS .held) (L .inv .slave .held) (w .value)
+        (λ k z. L .inv .log .stamped k z .past) (omega arith))

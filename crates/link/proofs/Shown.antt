@@ -1,9 +1,9 @@
 -- What is shown: the body of the S-Refresh last taken.
-use mathlib.Core.Path.{_≡_, ap, _∙_}
-use mathlib.Core.Bool.{Bool, true, false, _&&_}
+use mathlib.Core.Path.{_≡_, sym, ap, _∙_}
+use mathlib.Core.Bool.{Bool, true, false, _&&_, true≢false}
 use mathlib.Core.List.{List, _++_}
-use mathlib.Core.Option.{some}
-use Prim.Native.Nat.{ℕ, suc, _+_, _≤_, _<_}
+use mathlib.Core.Option.{Option, some, none}
+use Prim.Native.Nat.{ℕ, zero, suc, _+_, _≤_, _<_}
 use native.Mathlib.Omega.{arith}
 use lib.ListN.{length, take, drop, replicate}
 use lib.Seq.{take-all, take-at}
@@ -17,6 +17,7 @@ use Rattle.steps.specs.Calls.{isFailSafe, heldOr, shownOf}
 use Rattle.steps.specs.Deliveries.{paddedOf}
 use Rattle.steps.proofs.Shows.{show-width-le}
 use Rattle.link.proofs.Marks.{Mark, size, at}
+use Rattle.link.proofs.Invariant.{Held, ValueOf}
 use Rattle.link.proofs.Relation.{Holds}
 
 -- a value shown at moment m: the place of its frame, and how old that is
@@ -49,3 +50,21 @@ shown-is e b h v =
     ap (λ (x : Bool). take (showWidth (e .settings)) (heldOr x (e .value .bytes))) h
     ∙ ap (take (showWidth (e .settings))) (v .1)
     ∙ front-padded b (showWidth (e .settings)) (v .2) (show-width-le (e .settings))
+
+-- a value taken at moment r, at most a after its writing, and shown at m, at most i after that
+pub held-shown : (e : Endpoint) (l : List Mark) (kind next took r a m i : ℕ) (v : Option (List ℕ)) (h : ℕ)
+    → isFailSafe e ≡ false → Holds (e .settings) (e .value) v → took ≡ h → Held l kind next h → ValueOf l h r a v
+    → ((k : ℕ) → k < size l → at l k .moment ≤ m) → m ≤ r + i
+    → ShownAt l kind took m (a + i) (shownOf e)
+held-shown e l kind next took r a m i none h n o q g w past late = absurd (true≢false (sym (is-taken e n) ∙ o))
+held-shown e l kind next took r a m i (some b) zero n o q g w past late = absurd w
+held-shown e l kind next took r a m i (some b) (suc k) n o q g w past late = record {
+  place = k;
+  held = q;
+  there = g .there;
+  who = g .fits .who;
+  code = g .fits .code;
+  body = w .body ∙ sym (shown-is e b n o);
+  past = past k (g .there);
+  young = let y = w .young in omega arith;
+}
