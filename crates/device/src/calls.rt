@@ -128,7 +128,7 @@ pub fn start(device: Device, clock: u64, n: u32) -> Called
     if !is_done(before) {
         return refused(before, clock, n, device);
     }
-    let step = steps::turns::start(e, clock);
+    let step = steps::lifecycle::start(e, clock);
     acted(step, clock, n, device)
 }
 
@@ -160,7 +160,7 @@ pub fn stop(device: Device, clock: u64, n: u32, out: &mut [u8]) -> Called
     if !is_done(before) {
         return refused(before, clock, n, device);
     }
-    let step = steps::turns::stop(e, clock, out);
+    let step = steps::lifecycle::stop(e, clock, out);
     acted(step, clock, n, device)
 }
 
@@ -175,7 +175,7 @@ pub fn restart(device: Device, clock: u64, n: u32) -> Called
     if !is_done(before) {
         return refused(before, clock, n, device);
     }
-    let step = steps::turns::restart(e);
+    let step = steps::lifecycle::restart(e);
     acted(step, clock, n, device)
 }
 

@@ -8,7 +8,7 @@ use endpoint::Endpoint;
 use endpoint::Settings;
 use endpoint::time::ended;
 use endpoint::time::expired;
-use steps::turns::fresh;
+use steps::lifecycle::fresh;
 
 // A place of the table that holds no connection.
 pub(crate) fn no_connection() -> Endpoint

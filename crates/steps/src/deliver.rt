@@ -15,12 +15,12 @@ ghost use Rattle.steps.specs.Deliveries.{takenOf, takeRequest, isAsked, 
 ghost use Rattle.steps.specs.Deliveries.{takeReply, deliverOf};
 ghost use Rattle.steps.specs.Says.{plainStep, withRoom, StepSays};
 use super::Stepped;
+use super::lifecycle::stepped;
 use super::requests::reply_fields;
 use super::requests::setup_data;
 use super::requests::show_width;
 use super::requests::time_of;
 use super::requests::write_whole;
-use super::turns::stepped;
 use endpoint::Answer;
 use endpoint::Endpoint;
 use endpoint::Faults;

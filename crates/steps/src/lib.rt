@@ -2,10 +2,10 @@
 // nothing of the table that holds the endpoint.
 
 pub mod deliver;
+pub mod lifecycle;
 mod requests;
 pub mod send;
 pub mod show;
-pub mod turns;
 
 use endpoint::Answer;
 use endpoint::Endpoint;

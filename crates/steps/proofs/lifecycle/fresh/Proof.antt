@@ -1,7 +1,7 @@
--- `steps::turns::fresh` meets its contract.
+-- `steps::lifecycle::fresh` meets its contract.
 use borrow.Author.Needs.{needs}
-use Rattle.steps.proofs.turns.fresh.Statement.{statement}
-use Rattle.steps.proofs.turns.fresh.Tie as tie
+use Rattle.steps.proofs.lifecycle.fresh.Statement.{statement}
+use Rattle.steps.proofs.lifecycle.fresh.Tie as tie
 
 pub fresh-spec : {M : Type 1} → statement M
 fresh-spec =

@@ -1,7 +1,7 @@
--- `steps::turns::start` meets its contract.
+-- `steps::lifecycle::start` meets its contract.
 use borrow.Author.Needs.{needs}
-use Rattle.steps.proofs.turns.start.Statement.{statement}
-use Rattle.steps.proofs.turns.start.Tie as tie
+use Rattle.steps.proofs.lifecycle.start.Statement.{statement}
+use Rattle.steps.proofs.lifecycle.start.Tie as tie
 
 returns : tie.Need-returns
 returns c =

@@ -1,7 +1,7 @@
--- `steps::turns::restart` meets its contract.
+-- `steps::lifecycle::restart` meets its contract.
 use borrow.Author.Needs.{needs}
-use Rattle.steps.proofs.turns.restart.Statement.{statement}
-use Rattle.steps.proofs.turns.restart.Tie as tie
+use Rattle.steps.proofs.lifecycle.restart.Statement.{statement}
+use Rattle.steps.proofs.lifecycle.restart.Tie as tie
 
 returns : tie.Need-returns
 returns c =

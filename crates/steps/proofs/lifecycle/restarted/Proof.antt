@@ -1,7 +1,7 @@
--- `steps::turns::restarted` meets its contract.
+-- `steps::lifecycle::restarted` meets its contract.
 use borrow.Author.Needs.{needs}
-use Rattle.steps.proofs.turns.restarted.Statement.{statement}
-use Rattle.steps.proofs.turns.restarted.Tie as tie
+use Rattle.steps.proofs.lifecycle.restarted.Statement.{statement}
+use Rattle.steps.proofs.lifecycle.restarted.Tie as tie
 
 pub restarted-spec : {M : Type 1} → statement M
 restarted-spec =

@@ -1,7 +1,7 @@
--- `steps::turns::started` meets its contract.
+-- `steps::lifecycle::started` meets its contract.
 use borrow.Author.Needs.{needs}
-use Rattle.steps.proofs.turns.started.Statement.{statement}
-use Rattle.steps.proofs.turns.started.Tie as tie
+use Rattle.steps.proofs.lifecycle.started.Statement.{statement}
+use Rattle.steps.proofs.lifecycle.started.Tie as tie
 
 pub started-spec : {M : Type 1} → statement M
 started-spec =

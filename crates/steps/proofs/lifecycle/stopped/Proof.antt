@@ -1,7 +1,7 @@
--- `steps::turns::stopped` meets its contract.
+-- `steps::lifecycle::stopped` meets its contract.
 use borrow.Author.Needs.{needs}
-use Rattle.steps.proofs.turns.stopped.Statement.{statement}
-use Rattle.steps.proofs.turns.stopped.Tie as tie
+use Rattle.steps.proofs.lifecycle.stopped.Statement.{statement}
+use Rattle.steps.proofs.lifecycle.stopped.Tie as tie
 
 pub stopped-spec : {M : Type 1} → statement M
 stopped-spec =

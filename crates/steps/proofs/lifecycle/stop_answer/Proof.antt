@@ -1,7 +1,7 @@
--- `steps::turns::stop_answer` meets its contract.
+-- `steps::lifecycle::stop_answer` meets its contract.
 use borrow.Author.Needs.{needs}
-use Rattle.steps.proofs.turns.stop_answer.Statement.{statement}
-use Rattle.steps.proofs.turns.stop_answer.Tie as tie
+use Rattle.steps.proofs.lifecycle.stop_answer.Statement.{statement}
+use Rattle.steps.proofs.lifecycle.stop_answer.Tie as tie
 
 returns : tie.Need-returns
 returns c =

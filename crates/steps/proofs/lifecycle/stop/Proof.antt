@@ -1,4 +1,4 @@
--- `steps::turns::stop` meets its contract: too little room, refused, a slave's, a master's.
+-- `steps::lifecycle::stop` meets its contract: too little room, refused, a slave's, a master's.
 use borrow.Author.Needs.{needs}
 use mathlib.Core.Path.{_≡_}
 use Rattle.steps.proofs.Outcomes.{short, quiet, loud}
@@ -7,8 +7,8 @@ use Rattle.steps.specs.Calls.{outcome, stopOf, stoppedOf}
 use Rattle.steps.specs.Frames.{nothing, written, setupData, disconnectFields}
 use Rattle.endpoint.specs.declared.Answer.the-variants.{Done}
 use Rattle.frame.specs.declared.Command.the-variants as K
-use Rattle.steps.proofs.turns.stop.Statement.{statement}
-use Rattle.steps.proofs.turns.stop.Tie as tie
+use Rattle.steps.proofs.lifecycle.stop.Statement.{statement}
+use Rattle.steps.proofs.lifecycle.stop.Tie as tie
 
 returns : tie.Need-returns
 returns c =

@@ -1,7 +1,7 @@
--- `steps::turns::stop_stamps` meets its contract.
+-- `steps::lifecycle::stop_stamps` meets its contract.
 use borrow.Author.Needs.{needs}
-use Rattle.steps.proofs.turns.stop_stamps.Statement.{statement}
-use Rattle.steps.proofs.turns.stop_stamps.Tie as tie
+use Rattle.steps.proofs.lifecycle.stop_stamps.Statement.{statement}
+use Rattle.steps.proofs.lifecycle.stop_stamps.Tie as tie
 
 pub stop-stamps-spec : {M : Type 1} → statement M
 stop-stamps-spec =
