@@ -16,18 +16,21 @@ use Rattle.text.specs.declared.number.Number.{Number}
 use Rattle.text.specs.declared.number.Number.the-variants.{Value, Invalid}
 use Rattle.text.specs.Reading.{wordIn, restOf, numberOf, isHex, isFrame, isLoad}
 
--- the name that a word is, byte by byte
-unfoldable pub nameOf : List ℕ → Name
-nameOf w =
-    cond (same w (108 ∷ 111 ∷ 97 ∷ 100 ∷ [])) Load
-    (cond (same w (115 ∷ 116 ∷ 97 ∷ 114 ∷ 116 ∷ [])) Start
+-- the name that a word is, byte by byte: of a user's call on an entry, and of any call
+unfoldable pub userName : List ℕ → Name
+userName w =
+    cond (same w (115 ∷ 116 ∷ 97 ∷ 114 ∷ 116 ∷ [])) Start
     (cond (same w (115 ∷ 116 ∷ 111 ∷ 112 ∷ [])) Stop
     (cond (same w (114 ∷ 101 ∷ 115 ∷ 116 ∷ 97 ∷ 114 ∷ 116 ∷ [])) Restart
     (cond (same w (115 ∷ 101 ∷ 110 ∷ 100 ∷ [])) Send
-    (cond (same w (115 ∷ 104 ∷ 111 ∷ 119 ∷ [])) Show
+    (cond (same w (115 ∷ 104 ∷ 111 ∷ 119 ∷ [])) Show Unknown))))
+
+unfoldable pub nameOf : List ℕ → Name
+nameOf w =
+    cond (same w (108 ∷ 111 ∷ 97 ∷ 100 ∷ [])) Load
     (cond (same w (100 ∷ 101 ∷ 108 ∷ 105 ∷ 118 ∷ 101 ∷ 114 ∷ [])) Deliver
     (cond (same w (99 ∷ 104 ∷ 101 ∷ 99 ∷ 107 ∷ [])) Check
-    (cond (same w (114 ∷ 111 ∷ 111 ∷ 109 ∷ [])) Room Unknown))))))))
+    (cond (same w (114 ∷ 111 ∷ 111 ∷ 109 ∷ [])) Room (userName w))))
 
 -- CLOCK below 2^64 and ENTRY below 2^32
 unfoldable pub pairOf : Number → Number → Pair

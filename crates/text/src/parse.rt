@@ -3,8 +3,8 @@ ghost use mathlib.Core.Path.{_≡_};
 ghost use mathlib.Core.Bool.{cond};
 ghost use Prim.Native.Nat.{_≤_};
 ghost use lib.ListN.{length};
-ghost use Rattle.text.specs.Calls.{nameOf, pairOf, callAt, timedOf, sendOf, deliverOf, roomOf, timedIn, sendIn};
-ghost use Rattle.text.specs.Calls.{deliverIn, checkIn, callOf, lineOf};
+ghost use Rattle.text.specs.Calls.{userName, nameOf, pairOf, callAt, timedOf, sendOf, deliverOf, roomOf};
+ghost use Rattle.text.specs.Calls.{timedIn, sendIn, deliverIn, checkIn, callOf, lineOf};
 use super::Line;
 use super::hex::at;
 use super::hex::is_frame;
@@ -42,19 +42,26 @@ fn named(is: bool, name: Name, rest: Name) -> Name
     if is { name } else { rest }
 }
 
+// The name of a user's call on an entry that a word is.
+fn user_name(word: &[u8]) -> Name
+    ensures { λ r. ⌜ r ≡ userName (now (word .entry)) ⌝ }
+{
+    let show = named(same(word, b"show"), Name::Show, Name::Unknown);
+    let send = named(same(word, b"send"), Name::Send, show);
+    let restart = named(same(word, b"restart"), Name::Restart, send);
+    let stop = named(same(word, b"stop"), Name::Stop, restart);
+    named(same(word, b"start"), Name::Start, stop)
+}
+
 // The name that a word is.
 fn name_of(word: &[u8]) -> Name
     ensures { λ r. ⌜ r ≡ nameOf (now (word .entry)) ⌝ }
 {
-    let room = named(same(word, b"room"), Name::Room, Name::Unknown);
+    let user = user_name(word);
+    let room = named(same(word, b"room"), Name::Room, user);
     let check = named(same(word, b"check"), Name::Check, room);
     let deliver = named(same(word, b"deliver"), Name::Deliver, check);
-    let show = named(same(word, b"show"), Name::Show, deliver);
-    let send = named(same(word, b"send"), Name::Send, show);
-    let restart = named(same(word, b"restart"), Name::Restart, send);
-    let stop = named(same(word, b"stop"), Name::Stop, restart);
-    let start = named(same(word, b"start"), Name::Start, stop);
-    named(same(word, b"load"), Name::Load, start)
+    named(same(word, b"load"), Name::Load, deliver)
 }
 
 // The clock, and the entry where it is below 2^32.
