@@ -531,6 +531,9 @@ static struct called deliver(struct device *device, uint64_t clock, const uint8_
     if (room < FOLDERPINK_FRAME_MAX) {
         return gives(BUFFER, -1, 0);
     }
+    if (length == 0) {
+        return gives(DONE, -1, 0);
+    }
     fault = reference_check_frame(bytes, length);
     if (fault != FOLDERPINK_SOUND) {
         return gives(fault, -1, 0);

@@ -3,7 +3,7 @@ use mathlib.Core.Path.{_≡_}
 use mathlib.Core.Bool.{Bool, false, not, cond}
 use mathlib.Core.List.{List, []}
 use Prim.Native.Nat.{ℕ}
-use lib.Dec.{ltb}
+use lib.Dec.{eqb, ltb}
 use lib.ListN.{length, set}
 use lib.Seq.{slice}
 use Rattle.frame.specs.declared.Fields.{Fields}
@@ -112,7 +112,11 @@ abbrev pub showIn : Device → ℕ → ℕ → ℕ → Result
 showIn d t room n =
     unlessRefused (beforeShow d t (isShort room) n) t n d (shownIn (afterTick (endpointAt (d .endpoints) n) t) t n d)
 
--- ---- deliver: 4 to 7 by the reader, then 8, in the place of 3
+-- ---- deliver: a frame, or nothing; for a frame 4 to 7 by the reader, then 8, in the place of 3
+-- a cycle in which nothing arrived (document 02, note 1): the clock step; no connection's, so never 9
+abbrev pub emptyCycle : Device → ℕ → Bool → Result
+emptyCycle d t short = result (admit (d .last) t short Done) Absent [] false (afterClock t d)
+
 abbrev pub reasonOf : Fault → Reason
 reasonOf F.Length = R.Length
 reasonOf F.Copies = R.Copies
@@ -129,7 +133,8 @@ byReading d t room s (Frame f start end) =
     byEntry d t room f (slice start end s) (entryOf (f .connection) (d .count) (d .endpoints))
 
 abbrev pub deliverIn : Device → ℕ → ℕ → List ℕ → Result
-deliverIn d t room s = byReading d t room s (readingOf s)
+deliverIn d t room s =
+    cond (eqb (length s) 0) (emptyCycle d t (isShort room)) (byReading d t room s (readingOf s))
 
 -- ---- how a function's result and its lent output stand to a result
 abbrev pub called : Answer → Entry → ℕ → Bool → Device → Called

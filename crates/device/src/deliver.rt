@@ -1,7 +1,7 @@
 // Deliver: bytes as they came from the bus.
 ghost use mathlib.Core.Path.{_≡_};
 ghost use lib.ListN.{length};
-ghost use Rattle.device.specs.Calls.{reasonOf, byEntry, deliverIn, CallSays};
+ghost use Rattle.device.specs.Calls.{emptyCycle, reasonOf, byEntry, deliverIn, calledOf, CallSays};
 use super::Called;
 use super::Device;
 use super::Entry;
@@ -9,6 +9,7 @@ use super::calls::acted;
 use super::calls::admitted;
 use super::calls::before_entry;
 use super::calls::refused;
+use super::clock::after_clock;
 use super::table::endpoint_at;
 use super::table::find;
 use endpoint::Answer;
@@ -27,6 +28,20 @@ fn reason_of(fault: Fault) -> Reason
         Fault::Copies => Reason::Copies,
         Fault::CheckWord => Reason::CheckWord,
         Fault::Form => Reason::Form,
+    }
+}
+
+// A cycle in which nothing arrived. Its clock step may end connections; the answer names none.
+fn empty_cycle(device: Device, clock: u64, short: bool) -> Called
+    ensures { λ r. ⌜ r ≡ calledOf (emptyCycle device clock short) ⌝ }
+{
+    let last = device.last;
+    Called {
+        answer: admitted(last, clock, short, Answer::Done),
+        entry: Entry::Absent,
+        count: 0,
+        failsafe: false,
+        device: after_clock(device, clock),
     }
 }
 
@@ -63,11 +78,15 @@ fn deliver_to(
     }
 }
 
-// Bytes from the bus: numbers 4 to 7 where they are no frame. A slave's request writes its reply.
+// What a cycle of the bus brought: zero bytes are nothing, other bytes a frame, or numbers 4 to 7. A slave's request
+// writes its reply.
 pub fn deliver(device: Device, clock: u64, bytes: &[u8], out: &mut [u8]) -> Called
     ensures { λ r. ⌜ CallSays (deliverIn device clock (length (now (out .entry))) (now (bytes .entry)))
         (now (out .entry)) (now (out .exit)) r ⌝ }
 {
+    if bytes.len() == 0 {
+        return empty_cycle(device, clock, out.len() < 248);
+    }
     let last = device.last;
     let endpoints = device.endpoints;
     let reading = read_frame(bytes);

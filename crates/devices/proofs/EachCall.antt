@@ -2,7 +2,8 @@
 use mathlib.Core.Path.{_≡_, refl, sym, ap, subst, _∙_}
 use mathlib.Core.Bool.{Bool, true, false, _&&_, _||_, not, cond}
 use mathlib.Core.List.{List, [], _∷_}
-use Prim.Native.Nat.{ℕ}
+use Prim.Native.Nat.{ℕ, suc}
+use native.Mathlib.Omega.{arith}
 use lib.Dec.{eqb, leb}
 use lib.ListN.{length}
 use lib.Seq.{slice}
@@ -22,7 +23,7 @@ use Rattle.endpoint.specs.declared.Endpoint.{Endpoint}
 use Rattle.endpoint.specs.declared.Reason.{Reason}
 use Rattle.endpoint.specs.declared.Reason.the-variants as R
 use Rattle.endpoint.specs.declared.Answer.{Answer}
-use Rattle.endpoint.specs.declared.Answer.the-variants.{Dropped}
+use Rattle.endpoint.specs.declared.Answer.the-variants.{Done, Dropped}
 use Rattle.endpoint.specs.Answers.{isDone}
 use Rattle.endpoint.specs.Time.{isExpired, afterTick}
 use Rattle.steps.specs.Frames.{Written, nothing}
@@ -35,9 +36,9 @@ use Rattle.device.specs.declared.Device.{Device}
 use Rattle.device.specs.declared.Entry.{Entry}
 use Rattle.device.specs.declared.Entry.the-variants.{Absent, At}
 use Rattle.device.specs.Tables.{endpointAt, entryOf}
-use Rattle.device.specs.Clock.{isReading}
-use Rattle.device.specs.Calls.{Result, admit, refusedOf, onEntry, isShort, beforeShow, shownIn, reasonOf, byEntry}
-use Rattle.device.specs.Calls.{byReading}
+use Rattle.device.specs.Clock.{isReading, afterClock}
+use Rattle.device.specs.Calls.{Result, result, admit, refusedEntry, refusedOf, onEntry, isShort, beforeShow, shownIn}
+use Rattle.device.specs.Calls.{emptyCycle, reasonOf, byEntry, byReading}
 use Rattle.link.specs.Runs as L
 use Rattle.devices.specs.Runs.{Call, act, send, deliver, show, actIn, callIn, isOf, isRefreshIn, isFrameOf}
 use Rattle.devices.specs.Runs.{isRefreshOf, frameBy, lastOf, mayDeliver, handsBytes, tookBy, isAt, showsValue}
@@ -61,6 +62,12 @@ not-done last t short r = go (isReading last t) short
     go true true = refl
     go true false = refl
     go false s = refl
+
+-- zero bytes are no S-Refresh
+no-refresh : (cid : ℕ) (s : List ℕ) → eqb (length s) 0 ≡ true → isRefreshOf cid s ≡ false
+unfolding readingOf
+no-refresh cid [] z = refl
+no-refresh cid (b ∷ s) z = let q : suc (length s) ≡ 0 = eqb-true (suc (length s)) 0 z in absurd (omega arith)
 
 -- a show changes the endpoint by the clock step only
 show-call : (e : Endpoint) (t : ℕ)
@@ -112,15 +119,14 @@ module _ (cid : ℕ) (slave : Bool) (m : ℕ) (d₀ : Device) (n : ℕ) (T : Tab
         → Like (callIn d t room call .device) d → Match call
     idles = idle cid slave m d₀ n T d same t room reading log took
 
-    -- a call that is refused by number 1, 2, 3 or a reader takes the clock step on the entry
-    refused-at : (call : Call) (a : Answer) (k : ℕ) → callIn d t room call ≡ refusedOf a t k d
+    -- a call that does nothing but the clock step does that to the entry
+    clock-at : (call : Call) → callIn d t room call .device ≡ afterClock t d
         → endpointAt (callIn d t room call .device .endpoints) n ≡ afterTick (endpointAt (d .endpoints) n) t
-    refused-at call a k q = ap (λ (r : Result). endpointAt (r .device .endpoints) n) q
+    clock-at call q = ap (λ (x : Device). endpointAt (x .endpoints) n) q
         ∙ clocked-at cid slave m d₀ n T d same t room reading log took
 
-    refused-like : (call : Call) (a : Answer) (k : ℕ) → callIn d t room call ≡ refusedOf a t k d
-        → Like (callIn d t room call .device) d
-    refused-like call a k q = subst (λ (r : Result). Like (r .device) d) (sym q)
+    clock-like : (call : Call) → callIn d t room call .device ≡ afterClock t d → Like (callIn d t room call .device) d
+    clock-like call q = subst (λ (x : Device). Like x d) (sym q)
         (clocked-like cid slave m d₀ n T d same t room reading log took)
 
     -- the CID's entry, and its CID
@@ -204,22 +210,45 @@ module _ (cid : ℕ) (slave : Bool) (m : ℕ) (d₀ : Device) (n : ℕ) (T : Tab
         (λ h.
         let q : r ≡ refusedOf a t k d = cond-false (isDone a) (shownIn x t k d) (refusedOf a t k d) h in
         let i = isAt (entryOf cid (d .count) (d .endpoints)) k in
-        idles (show k) (refused-at (show k) a k q) (empty cid)
+        let c = ap (λ (r : Result). r .device) q in
+        idles (show k) (clock-at (show k) c) (empty cid)
         (ap (λ (b : Bool). i && (b && not (r .failsafe))) (ap (λ (r : Result). isDone (r .answer)) q ∙ h) ∙ and-false i)
-        refl (refused-like (show k) a k q))
+        refl (clock-like (show k) c))
 
     -- ---- deliver
-    -- refused by the reader, or of no connection
-    stray : (s : List ℕ) (a : Answer) → isDone a ≡ false → callIn d t room (deliver s) ≡ refusedOf a t 0 d
-        → Match (deliver s)
-    stray s a h q =
-        idles (deliver s) (refused-at (deliver s) a 0 q)
+    -- nothing but the clock step: nothing arrived, or the reader refused it, or it is of no connection
+    stray : (s : List ℕ) (a : Answer) (x : Entry) → (isDone a && isRefreshOf cid s) ≡ false
+        → callIn d t room (deliver s) ≡ result a x [] false (afterClock t d) → Match (deliver s)
+    stray s a x h q =
+        let c = ap (λ (r : Result). r .device) q in
+        idles (deliver s) (clock-at (deliver s) c)
         (ap (λ (r : Result). isFrameOf cid (r .writes)) q ∙ empty cid) refl
-        (ap (λ (b : Bool). cond (b && isRefreshOf cid s) (lastOf s (toLog log)) took)
-        (ap (λ (r : Result). isDone (r .answer)) q ∙ h))
-        (refused-like (deliver s) a 0 q)
+        (ap (λ (r : Result). cond (isDone (r .answer) && isRefreshOf cid s) (lastOf s (toLog log)) took) q
+        ∙ ap (λ (b : Bool). cond b (lastOf s (toLog log)) took) h)
+        (clock-like (deliver s) c)
 
-    module _ (s : List ℕ) (bytes : handsBytes (deliver s) ≡ true) (may : mayDeliver cid (toLog log) (deliver s) ≡ true)
+    -- with the number r, or one before it
+    refusing : (s : List ℕ) (r : Reason)
+        → callIn d t room (deliver s) ≡ refusedOf (admit (d .last) t (isShort room) (Dropped r)) t 0 d
+        → Match (deliver s)
+    refusing s r q =
+        let a = admit (d .last) t (isShort room) (Dropped r) in
+        stray s a (refusedEntry a 0)
+        (ap (λ (b : Bool). b && isRefreshOf cid s) (not-done (d .last) t (isShort room) r)) q
+
+    nothing-arrived : (s : List ℕ) → eqb (length s) 0 ≡ true → Match (deliver s)
+    nothing-arrived s z =
+        let a = admit (d .last) t (isShort room) Done in
+        stray s a Absent (ap (λ (b : Bool). isDone a && b) (no-refresh cid s z) ∙ and-false (isDone a))
+        (cond-true (eqb (length s) 0) (emptyCycle d t (isShort room)) (byReading d t room s (readingOf s)) z)
+
+    -- what arrived, as the reader takes it
+    arrived : (s : List ℕ) → eqb (length s) 0 ≡ false
+        → callIn d t room (deliver s) ≡ byReading d t room s (readingOf s)
+    arrived s z = cond-false (eqb (length s) 0) (emptyCycle d t (isShort room)) (byReading d t room s (readingOf s)) z
+
+    module _ (s : List ℕ) (filled : eqb (length s) 0 ≡ false) (bytes : handsBytes (deliver s) ≡ true)
+        (may : mayDeliver cid (toLog log) (deliver s) ≡ true)
         (f : Fields) (from to : ℕ) (is-frame : readingOf s ≡ Frame f from to) where
       back : Writable f (slice from to s) × (frameBytes f (slice from to s) ≡ s)
       back = round-trip .back s f from to (bytes-of s bytes) is-frame
@@ -247,7 +276,7 @@ module _ (cid : ℕ) (slave : Bool) (m : ℕ) (d₀ : Device) (n : ℕ) (T : Tab
           let body = slice from to s in
           let last = lastOf s (toLog log) in
           on-entry (deliver s) (S.deliver f body) (isShort room) k (record {
-            is = ap (byReading d t room s) is-frame ∙ ap (byEntry d t room f body) h;
+            is = arrived s filled ∙ ap (byReading d t room s) is-frame ∙ ap (byEntry d t room f body) h;
             bytes = back .0 .typed .bytes;
             lent = refl;
             frames = λ w. refl;
@@ -269,21 +298,25 @@ module _ (cid : ℕ) (slave : Bool) (m : ℕ) (d₀ : Device) (n : ℕ) (T : Tab
 
       delivering-frame : (x : Entry) → entryOf (f .connection) (d .count) (d .endpoints) ≡ x → Match (deliver s)
       delivering-frame Absent h =
-          stray s (admit (d .last) t (isShort room) (Dropped R.Unknown)) (not-done (d .last) t (isShort room) R.Unknown)
-          (ap (byReading d t room s) is-frame ∙ ap (byEntry d t room f (slice from to s)) h)
+          refusing s R.Unknown
+          (arrived s filled ∙ ap (byReading d t room s) is-frame ∙ ap (byEntry d t room f (slice from to s)) h)
       delivering-frame (At k) h = delivering-to k h
 
+    reading-of : (s : List ℕ) → eqb (length s) 0 ≡ false → handsBytes (deliver s) ≡ true
+        → mayDeliver cid (toLog log) (deliver s) ≡ true → (r : Reading) → readingOf s ≡ r → Match (deliver s)
+    reading-of s filled bytes may (Refused fault) h =
+        refusing s (reasonOf fault) (arrived s filled ∙ ap (byReading d t room s) h)
+    reading-of s filled bytes may (Frame f from to) h =
+        delivering-frame s filled bytes may f from to h (entryOf (f .connection) (d .count) (d .endpoints)) refl
+
     delivering : (s : List ℕ) → handsBytes (deliver s) ≡ true → mayDeliver cid (toLog log) (deliver s) ≡ true
-        → (r : Reading) → readingOf s ≡ r → Match (deliver s)
-    delivering s bytes may (Refused fault) h =
-        stray s (admit (d .last) t (isShort room) (Dropped (reasonOf fault)))
-        (not-done (d .last) t (isShort room) (reasonOf fault)) (ap (byReading d t room s) h)
-    delivering s bytes may (Frame f from to) h =
-        delivering-frame s bytes may f from to h (entryOf (f .connection) (d .count) (d .endpoints)) refl
+        → Match (deliver s)
+    delivering s bytes may =
+        bcase (eqb (length s) 0) (nothing-arrived s) (λ filled. reading-of s filled bytes may (readingOf s) refl)
 
     pub matches : (call : Call) → handsBytes call ≡ true → mayDeliver cid (toLog log) call ≡ true
         → Match call
     matches (act a k) b h = acting a k
     matches (send k value) b h = sending k value b
-    matches (deliver s) b h = delivering s b h (readingOf s) refl
+    matches (deliver s) b h = delivering s b h
     matches (show k) b h = showing k

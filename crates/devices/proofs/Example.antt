@@ -54,9 +54,10 @@ line =
     ++ (exchange 50 K.RefreshGo 8 (data-of K.RefreshGo)
     ++ (at-master 60 (send 0 (1 ∷ 2 ∷ 3 ∷ 4 ∷ []))
     ∷ at-slave 5061 (deliver (frameBytes (plainFields K.Refresh false false false cid 60 0) (1 ∷ 2 ∷ 3 ∷ 4 ∷ [])))
-    -- another entry, and bytes that are no frame
+    -- another entry, bytes that are no frame, and a cycle in which nothing arrived
     ∷ at-slave 5062 (show 1)
     ∷ at-slave 5063 (deliver (1 ∷ 2 ∷ 3 ∷ []))
+    ∷ at-slave 5064 (deliver [])
     ∷ at-slave 5070 (show 0)
     ∷ at-slave 5071 (send 0 (5 ∷ 6 ∷ 7 ∷ 8 ∷ []))
     -- a reading before the last: number 1

@@ -1,5 +1,5 @@
--- Document 01's cases that are proved ("Cases at each edge", the rows marked P): what the definitions give beside
--- what the paper states.
+-- Document 01's cases that are proved ("Cases at each edge", the rows marked P), and document 02's: what the
+-- definitions give beside what the papers state.
 use mathlib.Core.Path.{_≡_}
 use mathlib.Core.Bool.{false, not, cond}
 use mathlib.Core.List.{List, [], _∷_, map}
@@ -8,13 +8,15 @@ use lib.ListN.{replicate}
 use Rattle.frame.specs.declared.Command.the-variants as K
 use Rattle.frame.specs.declared.Fields.{Fields}
 use Rattle.frame.specs.Control.{controlOf}
+use Rattle.frame.specs.Reading as Reader
 use Rattle.endpoint.specs.declared.Settings.{Settings}
 use Rattle.endpoint.specs.declared.State.{State}
-use Rattle.endpoint.specs.declared.State.the-variants.{RefreshPending, Refresh}
+use Rattle.endpoint.specs.declared.State.the-variants.{RefreshPending, Refresh, Terminate}
 use Rattle.endpoint.specs.declared.Timestamp.the-variants.{At}
 use Rattle.endpoint.specs.declared.Pending.the-variants.{Nothing}
 use Rattle.endpoint.specs.declared.Endpoint.{Endpoint}
 use Rattle.endpoint.specs.Answers.{numberOf}
+use Rattle.endpoint.specs.Table.{stateNumber}
 use Rattle.endpoint.specs.Updates.{inState, timedFrom, withSetup}
 use Rattle.steps.specs.Frames.{plainFields, refreshFields, replyFields}
 use Rattle.steps.specs.Calls.{Outcome, freshOf}
@@ -22,8 +24,8 @@ use Rattle.steps.specs.Deliveries.{deliverOf}
 use Rattle.settings.specs.Words.{settingsOf}
 use Rattle.settings.specs.Lists.{settingsAt}
 use Rattle.device.specs.declared.Device.{Device}
-use Rattle.device.specs.Tables.{noSettings, deviceOf}
-use Rattle.device.specs.Calls.{Result, showIn}
+use Rattle.device.specs.Tables.{noSettings, endpointAt, deviceOf, unloaded}
+use Rattle.device.specs.Calls.{Result, showIn, deliverIn}
 
 -- master 1/2, slave 1/3, one word each way, I = 100, R = 50, A = 50: kinds 1 to 7
 abbrev listOf : ℕ → List ℕ
@@ -82,6 +84,13 @@ shownFrom = deviceOf (At 6230) 1 (afterRefresh first 6230 1200 ∷ replicate 7 (
 abbrev markOf : Result → ℕ
 markOf r = cond (r .failsafe) 1 0
 
+-- a cycle without a frame on that device: its number, and the state of the connection after it
+abbrev emptyAt : ℕ → ℕ → ℕ
+emptyAt t room = numberOf (deliverIn shownFrom t room [] .answer)
+
+abbrev stateAfterEmpty : ℕ → State
+stateAfterEmpty t = endpointAt (deliverIn shownFrom t 248 [] .device .endpoints) 0 .state
+
 pub record Case : Type 0 where
   pub given : ℕ
   pub stated : ℕ
@@ -112,6 +121,16 @@ cases =
     -- accepted at 6,230: shown at 6,330, fail-safe in a show at 6,331
     ∷ case (markOf (showIn shownFrom 6330 248 0)) 0
     ∷ case (markOf (showIn shownFrom 6331 248 0)) 1
+    -- zero bytes: in time, the connection stays; late, it ends, and the number is 0 all the same
+    ∷ case (emptyAt 6330 248) 0
+    ∷ case (stateNumber (stateAfterEmpty 6330)) (stateNumber Refresh)
+    ∷ case (emptyAt 6331 248) 0
+    ∷ case (stateNumber (stateAfterEmpty 6331)) (stateNumber Terminate)
+    -- a reading before the last; an output one byte short; a device never loaded; the frame check
+    ∷ case (emptyAt 6229 248) 1
+    ∷ case (emptyAt 6331 247) 2
+    ∷ case (numberOf (deliverIn unloaded 0 248 [] .answer)) 0
+    ∷ case (Reader.numberOf (Reader.readingOf [])) 4
     ∷ []
 
 -- each row gives what the paper states
