@@ -22,7 +22,7 @@ enum folderpink_answer {
     /* A sound frame. Whether it is due, and for whom, is not looked at. */
     FOLDERPINK_SOUND = 0,
 
-    /* length: not a frame length. */
+    /* length: not a frame length; 0 bytes are none either. */
     FOLDERPINK_LENGTH = 4,
 
     /* copies: SubPDU-A and SubPDU-B differ. */
