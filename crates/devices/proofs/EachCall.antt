@@ -36,7 +36,7 @@ use Rattle.device.specs.declared.Device.{Device}
 use Rattle.device.specs.declared.Entry.{Entry}
 use Rattle.device.specs.declared.Entry.the-variants.{Absent, At}
 use Rattle.device.specs.Tables.{endpointAt, entryOf}
-use Rattle.device.specs.Clock.{isReading, afterClock}
+use Rattle.device.specs.Clock.{isReading, clockStep, afterClock}
 use Rattle.device.specs.Calls.{Result, result, admit, refusedEntry, refusedOf, onEntry, isShort, beforeShow, shownIn}
 use Rattle.device.specs.Calls.{emptyCycle, reasonOf, byEntry, byReading}
 use Rattle.link.specs.Runs as L
@@ -47,8 +47,7 @@ use Rattle.devices.proofs.Tables.{Like, like-tick, like-at, ticked-at, 
 use Rattle.devices.proofs.Loaded.{Table}
 use Rattle.devices.proofs.Logs.{bytes-of, toLog, AllGood, no-more, last-of}
 use Rattle.devices.proofs.Idle.{call-expired, call-timely, tick-expired, tick-timely}
-use Rattle.devices.proofs.OneCall.{empty, not-logged, Matches, idle, clocked-at, clocked-like, EntryCall}
-use Rattle.devices.proofs.OneCall.{entry-call}
+use Rattle.devices.proofs.OneCall.{empty, not-logged, Matches, clocked, only-clock, EntryCall, entry-call}
 
 and-false : (b : Bool) → (b && false) ≡ false
 and-false true = refl
@@ -111,23 +110,16 @@ module _ (cid : ℕ) (slave : Bool) (m : ℕ) (d₀ : Device) (n : ℕ) (T : Tab
         → EntryCall cid slave m d₀ n T d same t room reading log took call by k short → Match call
     on-entry = entry-call cid slave m d₀ n T d same t room reading log took
 
-    idles : (call : Call)
-        → endpointAt (callIn d t room call .device .endpoints) n ≡ afterTick (endpointAt (d .endpoints) n) t
+    clocks : (call : Call)
+        → callIn d t room call .device ≡ clockStep t d
         → isFrameOf cid (frameBy call (callIn d t room call .writes)) ≡ false
         → showsValue cid d call (callIn d t room call) ≡ false
         → tookBy cid (toLog log) call (isDone (callIn d t room call .answer)) took ≡ took
-        → Like (callIn d t room call .device) d → Match call
-    idles = idle cid slave m d₀ n T d same t room reading log took
+        → Match call
+    clocks = only-clock cid slave m d₀ n T d same t room reading log took
 
-    -- a call that does nothing but the clock step does that to the entry
-    clock-at : (call : Call) → callIn d t room call .device ≡ afterClock t d
-        → endpointAt (callIn d t room call .device .endpoints) n ≡ afterTick (endpointAt (d .endpoints) n) t
-    clock-at call q = ap (λ (x : Device). endpointAt (x .endpoints) n) q
-        ∙ clocked-at cid slave m d₀ n T d same t room reading log took
-
-    clock-like : (call : Call) → callIn d t room call .device ≡ afterClock t d → Like (callIn d t room call .device) d
-    clock-like call q = subst (λ (x : Device). Like x d) (sym q)
-        (clocked-like cid slave m d₀ n T d same t room reading log took)
+    accepted : afterClock t d ≡ clockStep t d
+    accepted = clocked cid slave m d₀ n T d same t room reading log took
 
     -- the CID's entry, and its CID
     the-entry : entryOf cid (d .count) (d .endpoints) ≡ At n
@@ -204,28 +196,25 @@ module _ (cid : ℕ) (slave : Bool) (m : ℕ) (d₀ : Device) (n : ℕ) (T : Tab
         (showing-own (subst (λ (i : ℕ). isDone (beforeShow d t (isShort room) i) ≡ true) (sym q) h)))
         (λ b.
         let q : r ≡ shownIn x t k d = cond-true (isDone a) (shownIn x t k d) (refusedOf a t k d) h in
-        idles (show k) (ap (λ (r : Result). endpointAt (r .device .endpoints) n) q ∙ ticked-at d t n) (empty cid)
+        clocks (show k) (ap (λ (r : Result). r .device) q) (empty cid)
         (ap (λ (i : Bool). i && (isDone (r .answer) && not (r .failsafe))) (ap (λ (y : Entry). isAt y k) the-entry ∙ b))
-        refl (subst (λ (r : Result). Like (r .device) d) (sym q) (like-tick d t))))
+        refl))
         (λ h.
         let q : r ≡ refusedOf a t k d = cond-false (isDone a) (shownIn x t k d) (refusedOf a t k d) h in
         let i = isAt (entryOf cid (d .count) (d .endpoints)) k in
-        let c = ap (λ (r : Result). r .device) q in
-        idles (show k) (clock-at (show k) c) (empty cid)
+        clocks (show k) (ap (λ (r : Result). r .device) q ∙ accepted) (empty cid)
         (ap (λ (b : Bool). i && (b && not (r .failsafe))) (ap (λ (r : Result). isDone (r .answer)) q ∙ h) ∙ and-false i)
-        refl (clock-like (show k) c))
+        refl)
 
     -- ---- deliver
     -- nothing but the clock step: nothing arrived, or the reader refused it, or it is of no connection
     stray : (s : List ℕ) (a : Answer) (x : Entry) → (isDone a && isRefreshOf cid s) ≡ false
         → callIn d t room (deliver s) ≡ result a x [] false (afterClock t d) → Match (deliver s)
     stray s a x h q =
-        let c = ap (λ (r : Result). r .device) q in
-        idles (deliver s) (clock-at (deliver s) c)
+        clocks (deliver s) (ap (λ (r : Result). r .device) q ∙ accepted)
         (ap (λ (r : Result). isFrameOf cid (r .writes)) q ∙ empty cid) refl
         (ap (λ (r : Result). cond (isDone (r .answer) && isRefreshOf cid s) (lastOf s (toLog log)) took) q
         ∙ ap (λ (b : Bool). cond b (lastOf s (toLog log)) took) h)
-        (clock-like (deliver s) c)
 
     -- with the number r, or one before it
     refusing : (s : List ℕ) (r : Reason)

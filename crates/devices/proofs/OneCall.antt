@@ -119,7 +119,7 @@ module _ (cid : ℕ) (slave : Bool) (m : ℕ) (d₀ : Device) (n : ℕ) (T : Tab
       cond-false (showsValue cid d call r) (L.shown slave m (r .writes) took (length log) ∷ []) [] h
 
   -- the endpoint took the clock step only, and nothing of the CID was written, shown or taken
-  pub idle : (call : Call)
+  idle : (call : Call)
       → endpointAt (callIn d t room call .device .endpoints) n ≡ afterTick (endpointAt (d .endpoints) n) t
       → isFrameOf cid (frameBy call (callIn d t room call .writes)) ≡ false
       → showsValue cid d call (callIn d t room call) ≡ false
@@ -148,11 +148,16 @@ module _ (cid : ℕ) (slave : Bool) (m : ℕ) (d₀ : Device) (n : ℕ) (T : Tab
   pub clocked : afterClock t d ≡ clockStep t d
   clocked = cond-true (isReading (d .last) t) (clockStep t d) d reading
 
-  pub clocked-at : endpointAt (afterClock t d .endpoints) n ≡ afterTick (endpointAt (d .endpoints) n) t
-  clocked-at = ap (λ (x : Device). endpointAt (x .endpoints) n) clocked ∙ ticked-at d t n
-
-  pub clocked-like : Like (afterClock t d) d
-  clocked-like = subst (λ (x : Device). Like x d) (sym clocked) (like-tick d t)
+  -- the same of a call that left what the clock step leaves
+  pub only-clock : (call : Call)
+      → callIn d t room call .device ≡ clockStep t d
+      → isFrameOf cid (frameBy call (callIn d t room call .writes)) ≡ false
+      → showsValue cid d call (callIn d t room call) ≡ false
+      → tookBy cid (toLog log) call (isDone (callIn d t room call .answer)) took ≡ took
+      → Match call
+  only-clock call q fr sh to =
+      idle call (ap (λ (x : Device). endpointAt (x .endpoints) n) q ∙ ticked-at d t n) fr sh to
+      (subst (λ (x : Device). Like x d) (sym q) (like-tick d t))
 
   -- ---- a call on an entry
   pub record EntryCall (call : Call) (by : S.Call) (k : ℕ) (short : Bool) : Type 0 where
@@ -178,13 +183,12 @@ module _ (cid : ℕ) (slave : Bool) (m : ℕ) (d₀ : Device) (n : ℕ) (T : Tab
         let a = beforeEntry d t short k in
         let q : callIn d t room call ≡ refusedOf a t k d = E .is
         ∙ cond-false (isDone a) (actedOf (does k) t k d) (refusedOf a t k d) h in
-        idle call (ap (λ (r : Result). endpointAt (r .device .endpoints) n) q ∙ clocked-at)
+        only-clock call (ap (λ (r : Result). r .device) q ∙ clocked)
         (ap (λ (r : Result). isFrameOf cid (frameBy call (r .writes))) q ∙ ap (isFrameOf cid) (E .frames [])
         ∙ empty cid)
         (E .no-show (callIn d t room call))
         (ap (λ (b : Bool). tookBy cid (toLog log) call b took) (ap (λ (r : Result). isDone (r .answer)) q ∙ h)
         ∙ E .took-none)
-        (subst (λ (r : Result). Like (r .device) d) (sym q) clocked-like)
 
     module _ (k : ℕ) (E : EntryCall call by k short) (h : isDone (beforeEntry d t short k) ≡ true) where
       acted : callIn d t room call ≡ actedOf (does k) t k d
