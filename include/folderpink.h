@@ -33,7 +33,9 @@ enum folderpink_answer {
 
     /*
      * form: Cmd unlisted; Ack, Error or Application not allowed with this Cmd;
-     * OBL not 0 outside an S-RefreshGO request; another bit of CTRL, or RSV, not 0.
+     * Busy outside a reply to S-InitConfirmNetPrm, S-InitVerifyStnPrm or
+     * S-RefreshReady; OBL not 0 outside an S-RefreshGO request; another bit of
+     * CTRL, or RSV, not 0.
      */
     FOLDERPINK_FORM = 7
 };

@@ -49,6 +49,9 @@ static const uint32_t legal_ctrl[] = {
     0x02000000u, 0x02840000u, 0x02A40000u, /* S-InitVerifyStnPrm */
     0xFC000000u, 0xFC840000u, 0xFCA40000u, /* S-RefreshReady */
     GO_REQUEST,  0xFE840000u, 0xFEA40000u, /* S-RefreshGO */
+    0x01C40000u, 0x01E40000u,              /* replies with Busy, without Error and with it */
+    0x02C40000u, 0x02E40000u,
+    0xFCC40000u, 0xFCE40000u,
     0xF9000000u,                           /* S-Disconnect */
     0xFF000000u, 0xFF040000u,              /* S-Refresh of a master, of a slave */
 };
@@ -345,6 +348,14 @@ static const struct {
     {{0x00800000u, 0x01020103u, 0x03E80000u, 0, 0, 1, 0xA2457DF1u}, 7},
     /* S-Connect reply with Busy */
     {{0x00C40000u, 0x01020103u, 0x03E80000u, 0, 0, 1, 0x67E3B04Du}, 7},
+    /* S-InitVerifyStnPrm reply with Busy */
+    {{0x02C40000u, 0x01020103u, 0x03E80000u, 0, 0, 7, 0x3031A448u}, 0},
+    /* S-RefreshReady reply with Busy and Error */
+    {{0xFCE40000u, 0x01020103u, 0x03E80000u, 0, 0, 0, 0x92B49511u}, 0},
+    /* S-RefreshReady request with Busy */
+    {{0xFC400000u, 0x01020103u, 0x03E80000u, 0, 0, 0, 0xE76952F4u}, 7},
+    /* S-RefreshGO reply with Busy */
+    {{0xFEC40000u, 0x01020103u, 0x04100000u, 0, 0, 0, 0x9D733181u}, 7},
     /* S-Connect request with Error */
     {{0x00200000u, 0x01020103u, 0x03E80000u, 0, 0, 1, 0x053B0C05u}, 7},
     /* S-InitVerifyStnPrm reply with Error */

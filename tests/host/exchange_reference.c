@@ -1,7 +1,8 @@
 /*
  * The program of crates/exchange in plain C, written from document 01: the baseline
  * of the exchange benchmark. Same arguments, same line printed. A device is passed by
- * pointer. Stop, restart and loading from a list are left out: no exchange meets them.
+ * pointer. Stop, restart, stations that are not ready and loading from a list are left
+ * out: no exchange meets them.
  */
 #include <inttypes.h>
 #include <stdbool.h>

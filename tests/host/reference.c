@@ -1,5 +1,5 @@
 /*
- * Frame check in plain C, written from document 01 alone: the host test compares
+ * Frame check in plain C, written from documents 01 and 02 alone: the host test compares
  * check_frame with it, the benchmark takes it as the baseline.
  */
 #include "reference.h"
@@ -12,7 +12,7 @@
 
 #define GENERATOR 0x1EDC6F41u
 
-#define ALWAYS_ZERO (BUSY | OFFSET_OP_SEQ | MO_BUSY | RESERVED | SUB_CID_ACTIVE | SUB_CID)
+#define ALWAYS_ZERO (OFFSET_OP_SEQ | MO_BUSY | RESERVED | SUB_CID_ACTIVE | SUB_CID)
 
 static uint32_t crc_table[256];
 
@@ -68,6 +68,7 @@ static bool is_form_right(const uint8_t *subpdu)
     const uint32_t ctrl = get_word(subpdu + AT_CTRL);
     const uint32_t obl = get_word(subpdu + AT_TCODE_OBL) & 0xFFFFu;
     const bool ack = (ctrl & ACK) != 0;
+    const bool busy = (ctrl & BUSY) != 0;
     const bool error = (ctrl & ERROR) != 0;
     const bool application = (ctrl & APPLICATION) != 0;
 
@@ -79,16 +80,17 @@ static bool is_form_right(const uint8_t *subpdu)
     }
     switch (ctrl >> 24) {
     case S_REFRESH:
-        return !ack && obl == 0;
+        return !ack && !busy && obl == 0;
     case S_DISCONNECT:
-        return !ack && !application && obl == 0;
+        return !ack && !busy && !application && obl == 0;
     case S_REFRESH_GO:
-        return application == ack && (obl == 0 || !ack);
+        return application == ack && !busy && (obl == 0 || !ack);
     case S_CONNECT:
+        return application == ack && !busy && obl == 0;
     case S_INIT_CONFIRM_NET_PRM:
     case S_INIT_VERIFY_STN_PRM:
     case S_REFRESH_READY:
-        return application == ack && obl == 0;
+        return application == ack && (!busy || ack) && obl == 0;
     default:
         return false;
     }

@@ -15,11 +15,13 @@ use Rattle.endpoint.specs.declared.Answer.the-variants.{Done, Dropped}
 use Rattle.endpoint.specs.Answers.{isDone}
 use Rattle.endpoint.specs.Table.{isState}
 use Rattle.endpoint.specs.Time.{afterTick}
+use Rattle.endpoint.specs.Updates.{withNotReady}
 use Rattle.steps.proofs.Keeps.{bcase}
 use Rattle.steps.specs.declared.Stepped.{Stepped}
 use Rattle.steps.specs.declared.Shown.{Shown}
 use Rattle.steps.specs.Frames.{nothing, bytesOf}
-use Rattle.steps.specs.Calls.{Outcome, outcome, dropped, startedOf, startOf, restartedOf, restartOf, shownOf}
+use Rattle.steps.specs.Calls.{Outcome, outcome, dropped, startedOf, startOf, restartedOf, restartOf, setNotReadyOf}
+use Rattle.steps.specs.Calls.{shownOf}
 use Rattle.steps.specs.Says.{withRoom, plainStep, StepSays, shownTo, ShowSays}
 use Rattle.device.specs.declared.Device.{Device}
 use Rattle.device.specs.declared.Entry.the-variants.{At}
@@ -133,7 +135,7 @@ shown-says d t n out out′ b s called q h v r =
       output = v .output ∙ ap (λ (x : List ℕ). over x out) w ∙ ap (λ (x : Result). over (x .writes) out) (sym a);
     }
 
--- a start writes nothing, nor does a restart
+-- only send, stop and deliver write frames
 either-quiet : (b : Bool) (x y : Outcome) → x .writes ≡ nothing → y .writes ≡ nothing → cond b x y .writes ≡ nothing
 either-quiet true x y h k = h
 either-quiet false x y h k = k
@@ -147,3 +149,7 @@ pub restart-quiet : (e : Endpoint) → restartOf e .writes ≡ nothing
 restart-quiet e =
     either-quiet (isState (e .state) Terminate) (outcome Done (restartedOf e) nothing)
     (dropped e (Dropped R.Turn)) refl refl
+
+pub not-ready-quiet : (e : Endpoint) (b : Bool) → setNotReadyOf e b .writes ≡ nothing
+not-ready-quiet e b =
+    either-quiet (e .settings .slave) (outcome Done (withNotReady b e) nothing) (dropped e (Dropped R.Turn)) refl refl

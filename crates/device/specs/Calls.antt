@@ -23,7 +23,7 @@ use Rattle.endpoint.specs.Answers.{isDone, isEnded}
 use Rattle.endpoint.specs.Time.{isExpired, afterTick}
 use Rattle.steps.specs.declared.Stepped.{Stepped}
 use Rattle.steps.specs.Frames.{bytesOf}
-use Rattle.steps.specs.Calls.{Outcome, startOf, sendOf, stopOf, restartOf, isFailSafe, shownOf}
+use Rattle.steps.specs.Calls.{Outcome, startOf, sendOf, stopOf, restartOf, setNotReadyOf, isFailSafe, shownOf}
 use Rattle.steps.specs.Deliveries.{deliverOf}
 use Rattle.device.specs.declared.Device.{Device}
 use Rattle.device.specs.declared.Entry.{Entry}
@@ -88,7 +88,7 @@ onEntry act d t short n =
 abbrev pub isShort : ℕ → Bool
 isShort room = ltb room 248
 
--- ---- start, send, stop, restart: of the device, the clock reading, the output's length, the entry
+-- ---- start, send, stop, restart, set not ready: of the device, the clock reading, the output's length, the entry
 abbrev pub startIn : Device → ℕ → ℕ → Result
 startIn d t n = onEntry (λ e. startOf e t) d t false n
 
@@ -100,6 +100,9 @@ stopIn d t room n = onEntry (λ e. stopOf e t) d t (isShort room) n
 
 abbrev pub restartIn : Device → ℕ → ℕ → Result
 restartIn d t n = onEntry (λ e. restartOf e) d t false n
+
+abbrev pub setNotReadyIn : Device → ℕ → ℕ → Bool → Result
+setNotReadyIn d t n b = onEntry (λ e. setNotReadyOf e b) d t false n
 
 -- ---- show: never 9; what the clock step left is shown, and stays
 abbrev pub beforeShow : Device → ℕ → Bool → ℕ → Answer

@@ -1,8 +1,8 @@
-// The calls that name an entry: start, send, stop, restart, show.
+// The calls that name an entry: start, send, stop, restart, set_not_ready, show.
 ghost use mathlib.Core.Path.{_≡_};
 ghost use lib.ListN.{length};
 ghost use Rattle.device.specs.Calls.{admit, admitEntry, timely, refusedEntry, refusedOf, startIn, sendIn, stopIn};
-ghost use Rattle.device.specs.Calls.{restartIn, showIn, calledOf, stepCalled, CallSays};
+ghost use Rattle.device.specs.Calls.{restartIn, setNotReadyIn, showIn, calledOf, stepCalled, CallSays};
 use super::Called;
 use super::Device;
 use super::Entry;
@@ -176,6 +176,21 @@ pub fn restart(device: Device, clock: u64, n: u32) -> Called
         return refused(before, clock, n, device);
     }
     let step = steps::lifecycle::restart(e);
+    acted(step, clock, n, device)
+}
+
+// A station's user sets 'not ready', or clears it: a slave's, in any state.
+pub fn set_not_ready(device: Device, clock: u64, n: u32, notready: bool) -> Called
+    ensures { λ r. ⌜ r ≡ calledOf (setNotReadyIn device clock n notready) ⌝ }
+{
+    let last = device.last;
+    let endpoints = device.endpoints;
+    let e = endpoint_at(endpoints, n);
+    let before = before_entry(last, device.count, n, e, clock, false);
+    if !is_done(before) {
+        return refused(before, clock, n, device);
+    }
+    let step = steps::lifecycle::set_not_ready(e, notready);
     acted(step, clock, n, device)
 }
 

@@ -29,7 +29,7 @@ use Rattle.endpoint.specs.Time.{isExpired, afterTick}
 use Rattle.steps.specs.Frames.{Written, nothing}
 use Rattle.steps.specs.Calls.{Outcome, isFailSafe, shownOf}
 use Rattle.steps.specs.Steps as S
-use Rattle.steps.specs.Steps.{Act, start, stop, restart}
+use Rattle.steps.specs.Steps.{Act, start, stop, restart, setNotReady}
 use Rattle.steps.proofs.Dispatch.{cond-true, cond-false}
 use Rattle.steps.proofs.Keeps.{bcase}
 use Rattle.device.specs.declared.Device.{Device}
@@ -91,6 +91,7 @@ lends : ℕ → Act → Bool
 lends room start = false
 lends room stop = isShort room
 lends room restart = false
+lends room (setNotReady b) = false
 
 act-in : (d : Device) (t room : ℕ) (a : Act) (k : ℕ)
     → actIn d t room a k ≡ onEntry (λ e. S.actOf e t a) d t (lends room a) k
@@ -98,6 +99,7 @@ unfolding lends
 act-in d t room start k = refl
 act-in d t room stop k = refl
 act-in d t room restart k = refl
+act-in d t room (setNotReady b) k = refl
 
 module _ (cid : ℕ) (slave : Bool) (m : ℕ) (d₀ : Device) (n : ℕ) (T : Table d₀ cid n) (d : Device) (same : Like d d₀)
     (t room : ℕ) (reading : isReading (d .last) t ≡ true) (log : List L.Entry) (good : AllGood cid log) (took : ℕ)

@@ -1,7 +1,7 @@
--- The theorem's premises can be met: two devices are loaded, the line starts, refreshes both ways, and shows both
--- values. All of it is computed.
+-- The theorem's premises can be met: two devices are loaded, the line starts, its station at first not ready,
+-- refreshes both ways, and shows both values. All of it is computed.
 use mathlib.Core.Path.{_≡_, refl}
-use mathlib.Core.Bool.{true, false}
+use mathlib.Core.Bool.{Bool, true, false}
 use mathlib.Core.List.{List, [], _∷_, _++_}
 use Prim.Native.Nat.{ℕ, _+_}
 use Rattle.crc.specs.Crc.{bitStep, bitSteps, byteStep, crcFrom, crc}
@@ -13,7 +13,7 @@ use Rattle.frame.specs.Writing.{headBytes, withCheckWord, twice, subBytes, fram
 use Rattle.steps.specs.Frames.{bytesOf, plainFields, setupData}
 use Rattle.settings.specs.Lists.{connectionAt, settingsAt, isConnectionAt, isNewAt, areConnections, isList}
 use Rattle.device.specs.Tables.{endpointAt, findFrom, entryOf, freshUpTo, tickedAll}
-use Rattle.steps.specs.Steps.{start}
+use Rattle.steps.specs.Steps.{start, setNotReady}
 use Rattle.link.specs.Runs as L
 use Rattle.devices.specs.Runs.{Call, act, send, deliver, show, Event, areBytes, lastFrom, lastOf, Run, afterAll}
 use Rattle.devices.specs.Demand.{Holds, runOf}
@@ -34,26 +34,32 @@ clocks = record { master = 5000; slave = 0 }
 cid : ℕ
 cid = 0x01020103
 
--- a request written at t, taken by the slave, and its reply taken by the master one tick later each
-exchange : ℕ → Command → ℕ → List ℕ → List Event
-exchange t k baseline body =
-    at-master t (send 0 [])
-    ∷ at-slave (5001 + t) (deliver (frameBytes (plainFields k false false false cid t baseline) body))
-    ∷ at-master (2 + t) (deliver (frameBytes (plainFields k true false true cid t 0) body)) ∷ []
-
 data-of : Command → List ℕ
 data-of k = setupData (settingsAt (list 0x30000021) 0) k
+
+-- a request written at t, taken by the slave, and its reply, Busy or not, taken by the master one tick later each
+answered : Bool → ℕ → Command → ℕ → List Event
+answered busy t k baseline =
+    at-master t (send 0 [])
+    ∷ at-slave (5001 + t) (deliver (frameBytes (plainFields k false false false false cid t baseline) (data-of k)))
+    ∷ at-master (2 + t) (deliver (frameBytes (plainFields k true busy false true cid t 0) (data-of k))) ∷ []
+
+exchange : ℕ → Command → ℕ → List Event
+exchange t k baseline = answered false t k baseline
 
 line : List Event
 line =
     (at-master 9 (act start 0) ∷ [])
-    ++ (exchange 10 K.Connect 0 (data-of K.Connect)
-    ++ (exchange 20 K.ConfirmNetwork 0 (data-of K.ConfirmNetwork)
-    ++ (exchange 30 K.VerifyStation 0 (data-of K.VerifyStation)
-    ++ (exchange 40 K.RefreshReady 0 (data-of K.RefreshReady)
-    ++ (exchange 50 K.RefreshGo 8 (data-of K.RefreshGo)
+    ++ (exchange 10 K.Connect 0
+    ++ (exchange 20 K.ConfirmNetwork 0
+    ++ (exchange 30 K.VerifyStation 0
+    ++ ((at-slave 5033 (act (setNotReady true) 0) ∷ [])
+    ++ (answered true 35 K.RefreshReady 0
+    ++ ((at-slave 5038 (act (setNotReady false) 0) ∷ [])
+    ++ (exchange 40 K.RefreshReady 0
+    ++ (exchange 50 K.RefreshGo 8
     ++ (at-master 60 (send 0 (1 ∷ 2 ∷ 3 ∷ 4 ∷ []))
-    ∷ at-slave 5061 (deliver (frameBytes (plainFields K.Refresh false false false cid 60 0) (1 ∷ 2 ∷ 3 ∷ 4 ∷ [])))
+    ∷ at-slave 5061 (deliver (frameBytes (plainFields K.Refresh false false false false cid 60 0) (1 ∷ 2 ∷ 3 ∷ 4 ∷ [])))
     -- another entry, bytes that are no frame, and a cycle in which nothing arrived
     ∷ at-slave 5062 (show 1)
     ∷ at-slave 5063 (deliver (1 ∷ 2 ∷ 3 ∷ []))
@@ -62,8 +68,8 @@ line =
     ∷ at-slave 5071 (send 0 (5 ∷ 6 ∷ 7 ∷ 8 ∷ []))
     -- a reading before the last: number 1
     ∷ at-slave 5000 (show 0)
-    ∷ at-master 72 (deliver (frameBytes (plainFields K.Refresh false false true cid 72 0) (5 ∷ 6 ∷ 7 ∷ 8 ∷ [])))
-    ∷ at-master 80 (show 0) ∷ []))))))
+    ∷ at-master 72 (deliver (frameBytes (plainFields K.Refresh false false false true cid 72 0) (5 ∷ 6 ∷ 7 ∷ 8 ∷ [])))
+    ∷ at-master 80 (show 0) ∷ [])))))))))
 
 run : Run
 run = runOf (list 0x30000021) (list 0x30000421) cid clocks line
@@ -80,15 +86,15 @@ unfolding list cid connectionAt settingsAt isConnectionAt isNewAt areConnections
 slave = record { done = refl; entry = 0; there = refl; role = refl }
 
 allowed : run .allowed ≡ true
-unfolding run line exchange data-of clocks at-master at-slave list cid afterAll areBytes lastFrom lastOf endpointAt
+unfolding run line exchange answered data-of clocks at-master at-slave list cid afterAll areBytes lastFrom lastOf endpointAt
     findFrom entryOf freshUpTo tickedAll connectionAt settingsAt isConnectionAt isNewAt areConnections isList bytesOf
     setupData controlOf hasForm hasCheckWord fieldsIn readingOfCopies readingOf headBytes withCheckWord twice subBytes
     frameBytes isWritable bitStep bitSteps byteStep crcFrom crc
 allowed = refl
 
 shown : run .shows
-    ≡ (L.shown true 5070 (1 ∷ 2 ∷ 3 ∷ 4 ∷ []) 11 11 ∷ L.shown false 5080 (5 ∷ 6 ∷ 7 ∷ 8 ∷ []) 12 12 ∷ [])
-unfolding run line exchange data-of clocks at-master at-slave list cid afterAll areBytes lastFrom lastOf endpointAt
+    ≡ (L.shown true 5070 (1 ∷ 2 ∷ 3 ∷ 4 ∷ []) 13 13 ∷ L.shown false 5080 (5 ∷ 6 ∷ 7 ∷ 8 ∷ []) 14 14 ∷ [])
+unfolding run line exchange answered data-of clocks at-master at-slave list cid afterAll areBytes lastFrom lastOf endpointAt
     findFrom entryOf freshUpTo tickedAll connectionAt settingsAt isConnectionAt isNewAt areConnections isList bytesOf
     setupData controlOf hasForm hasCheckWord fieldsIn readingOfCopies readingOf headBytes withCheckWord twice subBytes
     frameBytes isWritable bitStep bitSteps byteStep crcFrom crc

@@ -1,25 +1,28 @@
 -- Document 01's cases that are proved ("Cases at each edge", the rows marked P), and document 02's: what the
 -- definitions give beside what the papers state.
 use mathlib.Core.Path.{_≡_}
-use mathlib.Core.Bool.{false, not, cond}
+use mathlib.Core.Bool.{Bool, true, false, not, cond}
 use mathlib.Core.List.{List, [], _∷_, map}
 use Prim.Native.Nat.{ℕ, _/_, _%_}
 use lib.ListN.{replicate}
+use Rattle.frame.specs.declared.Command.{Command}
 use Rattle.frame.specs.declared.Command.the-variants as K
 use Rattle.frame.specs.declared.Fields.{Fields}
 use Rattle.frame.specs.Control.{controlOf}
 use Rattle.frame.specs.Reading as Reader
+use Rattle.frame.specs.Writing.{frameBytes}
 use Rattle.endpoint.specs.declared.Settings.{Settings}
 use Rattle.endpoint.specs.declared.State.{State}
-use Rattle.endpoint.specs.declared.State.the-variants.{RefreshPending, Refresh, Terminate}
+use Rattle.endpoint.specs.declared.State.the-variants.{Close, EstablishPending, Establish, ParamVerify, RefreshPending}
+use Rattle.endpoint.specs.declared.State.the-variants.{Refresh, Terminate}
 use Rattle.endpoint.specs.declared.Timestamp.the-variants.{At}
-use Rattle.endpoint.specs.declared.Pending.the-variants.{Nothing}
+use Rattle.endpoint.specs.declared.Pending.the-variants.{Nothing, Asked}
 use Rattle.endpoint.specs.declared.Endpoint.{Endpoint}
 use Rattle.endpoint.specs.Answers.{numberOf}
 use Rattle.endpoint.specs.Table.{stateNumber}
-use Rattle.endpoint.specs.Updates.{inState, timedFrom, withSetup}
-use Rattle.steps.specs.Frames.{plainFields, refreshFields, replyFields}
-use Rattle.steps.specs.Calls.{Outcome, freshOf}
+use Rattle.endpoint.specs.Updates.{inState, timedFrom, withSetup, withPending, withNotReady}
+use Rattle.steps.specs.Frames.{Written, nothing, written, setupData, plainFields, refreshFields, replyFields}
+use Rattle.steps.specs.Calls.{Outcome, freshOf, sendOf}
 use Rattle.steps.specs.Deliveries.{deliverOf}
 use Rattle.settings.specs.Words.{settingsOf}
 use Rattle.settings.specs.Lists.{settingsAt}
@@ -55,17 +58,18 @@ cid = 0x01020103
 
 -- an S-Connect request
 abbrev connecting : Fields
-connecting = plainFields K.Connect false false false cid 10 0
+connecting = plainFields K.Connect false false false false cid 10 0
 
 -- Readying: S-RefreshGO, sent at 1,040 with OBL 10, taken by the slave whose s2 is 6,010
 abbrev ready : Endpoint
 ready =
     deliverOf (endpointIn slaveSettings RefreshPending 6010 6010 0) 6050
-    (plainFields K.RefreshGo false false false cid 1040 10) (0 ∷ 0 ∷ 0 ∷ 0 ∷ []) .endpoint
+    (plainFields K.RefreshGo false false false false cid 1040 10) (0 ∷ 0 ∷ 0 ∷ 0 ∷ []) .endpoint
 
 -- an S-Refresh with this timestamp from the other end: what it comes to, the number it gets, and the endpoint it leaves
 abbrev refreshed : Endpoint → ℕ → ℕ → Outcome
-refreshed e t stamp = deliverOf e t (plainFields K.Refresh false false (not (e .settings .slave)) cid stamp 0) word
+refreshed e t stamp =
+    deliverOf e t (plainFields K.Refresh false false false (not (e .settings .slave)) cid stamp 0) word
 
 abbrev refreshAt : Endpoint → ℕ → ℕ → ℕ
 refreshAt e t stamp = numberOf (refreshed e t stamp .answer)
@@ -91,6 +95,34 @@ emptyAt t room = numberOf (deliverIn shownFrom t room [] .answer)
 abbrev stateAfterEmpty : ℕ → State
 stateAfterEmpty t = endpointAt (deliverIn shownFrom t 248 [] .device .endpoints) 0 .state
 
+-- CTRL of what a call writes; 0 for nothing
+abbrev controlIn : Written → ℕ
+controlIn nothing = 0
+controlIn (written f body) = controlOf f
+
+-- what a request at 6,040 comes to at a station that is not ready, in a state since 6,000, with an s2 of 5
+abbrev asked : State → Command → List ℕ → Outcome
+asked state k body =
+    deliverOf (withNotReady true (endpointIn slaveSettings state 6000 5 0)) 6040
+    (plainFields k false false false false cid 10 0) body
+
+-- the same with the data that it compares
+abbrev askedRight : State → Command → Outcome
+askedRight state k = asked state k (setupData slaveSettings k)
+
+-- what a Busy reply at 1,030 comes to at a master whose S-RefreshReady of 1,000 is pending, with an m2 of 5
+abbrev busyReply : Bool → List ℕ → Outcome
+busyReply error body =
+    deliverOf (withPending (Asked 1000) (endpointIn masterSettings ParamVerify 1000 5 0)) 1030
+    (plainFields K.RefreshReady true true error true cid 1000 0) body
+
+abbrev dueAgain : Endpoint
+dueAgain = busyReply false (0 ∷ 0 ∷ 0 ∷ 0 ∷ []) .endpoint
+
+-- the frame check of a command's reply with Busy 1
+abbrev busyForm : Command → ℕ
+busyForm k = Reader.numberOf (Reader.readingOf (frameBytes (plainFields k true true false true cid 10 0) word))
+
 pub record Case : Type 0 where
   pub given : ℕ
   pub stated : ℕ
@@ -104,7 +136,7 @@ cases =
     case (masterSettings .connection) 0x01020103
     -- slave S-Refresh CTRL; S-Connect reply
     ∷ case (controlOf (refreshFields (endpointIn slaveSettings Refresh 0 0 0) 0)) 0xFF040000
-    ∷ case (controlOf (replyFields (freshOf slaveSettings) connecting false)) 0x00840000
+    ∷ case (controlOf (replyFields (freshOf slaveSettings) connecting false false)) 0x00840000
     -- sending time 65,530, ts_offset 10: T code 4, CC 1
     ∷ case (refreshFields (endpointIn slaveSettings Refresh 0 0 10) 65530 .timestamp % 65536) 4
     ∷ case (refreshFields (endpointIn slaveSettings Refresh 0 0 10) 65530 .timestamp / 65536) 1
@@ -131,6 +163,32 @@ cases =
     ∷ case (emptyAt 6331 247) 2
     ∷ case (numberOf (deliverIn unloaded 0 248 [] .answer)) 0
     ∷ case (Reader.numberOf (Reader.readingOf [])) 4
+    -- a station that is not ready: Busy in replies to 0x01, 0x02 and 0xFC, and in no others
+    ∷ case (controlIn (askedRight EstablishPending K.ConfirmNetwork .writes)) 0x01C40000
+    ∷ case (controlIn (askedRight Establish K.VerifyStation .writes)) 0x02C40000
+    ∷ case (controlIn (askedRight ParamVerify K.RefreshReady .writes)) 0xFCC40000
+    ∷ case (controlIn (askedRight Close K.Connect .writes)) 0x00840000
+    ∷ case (controlIn (askedRight RefreshPending K.RefreshGo .writes)) 0xFE840000
+    -- it stays in its state, its timer runs from the reply, s2 is not fixed
+    ∷ case (stateNumber (askedRight ParamVerify K.RefreshReady .endpoint .state)) (stateNumber ParamVerify)
+    ∷ case (askedRight ParamVerify K.RefreshReady .endpoint .since) 6040
+    ∷ case (askedRight ParamVerify K.RefreshReady .endpoint .setup .measured) 5
+    -- unequal contents: 16, with Error and without Busy
+    ∷ case (numberOf (asked ParamVerify K.RefreshReady word .answer)) 16
+    ∷ case (controlIn (asked ParamVerify K.RefreshReady word .writes)) 0xFCA40000
+    -- a master on a Busy reply: 0; its state stays, its timer starts afresh, m2 is not fixed, the same Cmd is sent again
+    ∷ case (numberOf (busyReply false (0 ∷ 0 ∷ 0 ∷ 0 ∷ []) .answer)) 0
+    ∷ case (stateNumber (dueAgain .state)) (stateNumber ParamVerify)
+    ∷ case (dueAgain .since) 1030
+    ∷ case (dueAgain .setup .measured) 5
+    ∷ case (controlIn (sendOf dueAgain 1031 [] .writes)) 0xFC000000
+    -- with Error, or with other contents: 16
+    ∷ case (numberOf (busyReply true (0 ∷ 0 ∷ 0 ∷ 0 ∷ []) .answer)) 16
+    ∷ case (numberOf (busyReply false word .answer)) 16
+    -- Busy in another reply: 7
+    ∷ case (busyForm K.VerifyStation) 0
+    ∷ case (busyForm K.Connect) 7
+    ∷ case (busyForm K.RefreshGo) 7
     ∷ []
 
 -- each row gives what the paper states

@@ -17,8 +17,8 @@ use Rattle.device.specs.declared.Entry.{Entry}
 use Rattle.device.specs.declared.Entry.the-variants.{Absent, At}
 use Rattle.device.specs.Tables.{entryOf}
 use Rattle.device.specs.Clock.{isReading}
-use Rattle.device.specs.Calls.{Result, startIn, sendIn, stopIn, restartIn, showIn, deliverIn}
-use Rattle.steps.specs.Steps.{Act, start, stop, restart}
+use Rattle.device.specs.Calls.{Result, startIn, sendIn, stopIn, restartIn, setNotReadyIn, showIn, deliverIn}
+use Rattle.steps.specs.Steps.{Act, start, stop, restart, setNotReady}
 use Rattle.link.specs.Runs.{Clocks, momentOf, Show, shown}
 
 -- ---- calls: any but load, for whatever entry
@@ -40,6 +40,7 @@ abbrev pub actIn : Device → ℕ → ℕ → Act → ℕ → Result
 actIn d t room start n = startIn d t n
 actIn d t room stop n = stopIn d t room n
 actIn d t room restart n = restartIn d t n
+actIn d t room (setNotReady b) n = setNotReadyIn d t n b
 
 abbrev pub callIn : Device → ℕ → ℕ → Call → Result
 callIn d t room (act a n) = actIn d t room a n

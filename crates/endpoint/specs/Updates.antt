@@ -1,40 +1,48 @@
 -- An endpoint with a part of it changed, the others as they were.
+use mathlib.Core.Bool.{Bool}
 use Prim.Native.Nat.{ℕ}
 use Rattle.endpoint.specs.declared.Settings.{Settings}
 use Rattle.endpoint.specs.declared.State.{State}
 use Rattle.endpoint.specs.declared.Timestamps.{Timestamps}
 use Rattle.endpoint.specs.declared.Pending.{Pending}
 use Rattle.endpoint.specs.declared.Setup.{Setup}
+use Rattle.endpoint.specs.declared.Station.{Station}
 use Rattle.endpoint.specs.declared.Value.{Value}
 use Rattle.endpoint.specs.declared.Endpoint.{Endpoint}
 
-abbrev pub endpointOf : Settings → State → ℕ → Timestamps → Setup → Value → Endpoint
-endpointOf settings state since timestamps setup value = record {
+abbrev pub endpointOf : Settings → State → ℕ → Timestamps → Setup → Station → Value → Endpoint
+endpointOf settings state since timestamps setup station value = record {
   settings = settings;
   state = state;
   since = since;
   timestamps = timestamps;
   setup = setup;
+  station = station;
   value = value;
 }
 
 abbrev pub inState : State → Endpoint → Endpoint
-inState s e = endpointOf (e .settings) s (e .since) (e .timestamps) (e .setup) (e .value)
+inState s e = endpointOf (e .settings) s (e .since) (e .timestamps) (e .setup) (e .station) (e .value)
 
 -- its timer starts at t
 abbrev pub timedFrom : ℕ → Endpoint → Endpoint
-timedFrom t e = endpointOf (e .settings) (e .state) t (e .timestamps) (e .setup) (e .value)
+timedFrom t e = endpointOf (e .settings) (e .state) t (e .timestamps) (e .setup) (e .station) (e .value)
 
 abbrev pub withTimestamps : Timestamps → Endpoint → Endpoint
-withTimestamps ts e = endpointOf (e .settings) (e .state) (e .since) ts (e .setup) (e .value)
+withTimestamps ts e = endpointOf (e .settings) (e .state) (e .since) ts (e .setup) (e .station) (e .value)
 
 abbrev pub withSetup : Pending → ℕ → ℕ → Endpoint → Endpoint
 withSetup pending measured offset e =
     endpointOf (e .settings) (e .state) (e .since) (e .timestamps)
-    (record { pending = pending; measured = measured; offset = offset }) (e .value)
+    (record { pending = pending; measured = measured; offset = offset }) (e .station) (e .value)
 
 abbrev pub withPending : Pending → Endpoint → Endpoint
 withPending p e = withSetup p (e .setup .measured) (e .setup .offset) e
 
 abbrev pub holding : Value → Endpoint → Endpoint
-holding v e = endpointOf (e .settings) (e .state) (e .since) (e .timestamps) (e .setup) v
+holding v e = endpointOf (e .settings) (e .state) (e .since) (e .timestamps) (e .setup) (e .station) v
+
+-- its user says whether the station is not ready
+abbrev pub withNotReady : Bool → Endpoint → Endpoint
+withNotReady b e =
+    endpointOf (e .settings) (e .state) (e .since) (e .timestamps) (e .setup) (record { notready = b }) (e .value)

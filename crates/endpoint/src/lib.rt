@@ -61,6 +61,12 @@ pub struct Setup {
     pub offset: u64,
 }
 
+// What the station's user has set, unset after loading; it survives restart and Terminate. A master's is of no account.
+pub struct Station {
+    // document 02's 'not ready': the station cannot confirm its parameters yet
+    pub notready: bool,
+}
+
 // The last value accepted in this Refresh, with zeros after it; the fail-safe value [0; 100] where there is none.
 pub struct Value {
     pub taken: bool,
@@ -74,6 +80,7 @@ pub struct Endpoint {
     pub since: u64,
     pub timestamps: Timestamps,
     pub setup: Setup,
+    pub station: Station,
     pub value: Value,
 }
 

@@ -136,12 +136,14 @@ pub fn ended(e: Endpoint) -> Endpoint
     let settings = e.settings;
     let timestamps = e.timestamps;
     let setup = e.setup;
+    let station = e.station;
     Endpoint {
         settings: settings,
         state: State::Terminate,
         since: e.since,
         timestamps: timestamps,
         setup: setup,
+        station: station,
         value: no_value(),
     }
 }

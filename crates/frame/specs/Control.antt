@@ -72,6 +72,14 @@ ackFits f = not (f .ack) || not (is (f .command) Refresh || is (f .command) Disc
 abbrev pub applicationFits : Fields → Bool
 applicationFits f = is (f .command) Refresh || Bool·beq (f .application) (f .ack)
 
+-- the commands whose reply may say that the station is not ready (document 02, note 2)
+abbrev pub mayBeBusy : Command → Bool
+mayBeBusy k = is k ConfirmNetwork || (is k VerifyStation || is k RefreshReady)
+
+-- Busy may be 1 in those replies only
+abbrev pub busyFits : Fields → Bool
+busyFits f = not (f .busy) || (f .ack && mayBeBusy (f .command))
+
 -- Error may be 1 in replies only
 abbrev pub errorFits : Fields → Bool
 errorFits f = not (f .error) || f .ack
@@ -80,10 +88,11 @@ errorFits f = not (f .error) || f .ack
 abbrev pub baselineFits : Fields → Bool
 baselineFits f = eqb (f .baseline) 0 || (is (f .command) RefreshGo && not (f .ack))
 
--- Busy, Offset op seq and Sub CID are not used
+-- Offset op seq and Sub CID are not used
 abbrev pub restIsZero : Fields → Bool
-restIsZero f = not (f .busy) && (not (f .sequence) && isAbsent (f .session))
+restIsZero f = not (f .sequence) && isAbsent (f .session)
 
 -- the form rule on fields
 unfoldable pub hasForm : Fields → Bool
-hasForm f = ackFits f && (applicationFits f && (errorFits f && (baselineFits f && restIsZero f)))
+hasForm f =
+    ackFits f && (applicationFits f && (busyFits f && (errorFits f && (baselineFits f && restIsZero f))))

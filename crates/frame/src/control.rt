@@ -2,7 +2,7 @@
 ghost use mathlib.Core.Path.{_≡_};
 ghost use Prim.Native.Nat.{_≤_, _<_};
 ghost use Rattle.frame.specs.Control.{codeOf, commandOf, is, sessionBits, sessionOf, isAbsent, flag, controlOf};
-ghost use Rattle.frame.specs.Control.{hasForm};
+ghost use Rattle.frame.specs.Control.{mayBeBusy, hasForm};
 use super::Command;
 use super::Fields;
 use super::Session;
@@ -102,6 +102,13 @@ pub(crate) fn control_of(f: Fields) -> u32
                         + (flag(f.application, 262144) + session_bits(session))))))
 }
 
+// Whether a command's reply may have Busy 1.
+pub fn may_be_busy(k: Command) -> bool
+    ensures { λ r. ⌜ r ≡ mayBeBusy k ⌝ }
+{
+    is(k, Command::ConfirmNetwork) | (is(k, Command::VerifyStation) | is(k, Command::RefreshReady))
+}
+
 // The form rule on fields.
 pub(crate) fn has_form(f: Fields) -> bool
     ensures { λ r. ⌜ r ≡ hasForm f ⌝ }
@@ -111,10 +118,12 @@ pub(crate) fn has_form(f: Fields) -> bool
     let refresh = is(command, Command::Refresh);
     let disconnect = is(command, Command::Disconnect);
     let go = is(command, Command::RefreshGo);
+    let may_be_busy = may_be_busy(command);
     let ack_fits = !f.ack | !(refresh | disconnect);
     let application_fits = refresh | (f.application == f.ack);
+    let busy_fits = !f.busy | (f.ack & may_be_busy);
     let error_fits = !f.error | f.ack;
     let baseline_fits = (f.baseline == 0) | (go & !f.ack);
-    let rest_is_zero = !f.busy & (!f.sequence & is_absent(session));
-    ack_fits & (application_fits & (error_fits & (baseline_fits & rest_is_zero)))
+    let rest_is_zero = !f.sequence & is_absent(session);
+    ack_fits & (application_fits & (busy_fits & (error_fits & (baseline_fits & rest_is_zero))))
 }

@@ -9,7 +9,7 @@ use borrow.Author.Tests.{eqb-true}
 use Rattle.frame.specs.declared.Command.{Command}
 use Rattle.frame.specs.declared.Command.the-variants as K
 use Rattle.frame.specs.declared.Fields.{Fields}
-use Rattle.frame.specs.Control.{is, codeOf}
+use Rattle.frame.specs.Control.{is, codeOf, mayBeBusy}
 use Rattle.endpoint.specs.declared.Settings.{Settings}
 use Rattle.endpoint.specs.declared.State.{State}
 use Rattle.endpoint.specs.declared.State.the-variants.{Close, Starting, EstablishPending, Establish, ParamVerify}
@@ -21,9 +21,10 @@ use Rattle.endpoint.specs.Table.{isState, isSetup, requestOf}
 use Rattle.endpoint.specs.Time.{span, minus, isExpired, endedOf, allowanceOf}
 use Rattle.steps.specs.Frames.{setupData, timeOf, baselineOf, requestFields, refreshFields, disconnectFields}
 use Rattle.steps.specs.Calls.{startedOf, restartedOf, requestedOf, refreshSentOf, stoppedOf, isFailSafe, shownOf}
-use Rattle.steps.specs.Deliveries.{ageOf, paddedOf, refreshedOf, confirmedOf}
+use Rattle.steps.specs.Deliveries.{ageOf, paddedOf, refreshedOf, confirmedOf, dueAgainOf}
 use Rattle.steps.specs.Laws.{RequestSent, RefreshSent, StopDone, ReplyTaken, RefreshTaken}
 use Rattle.steps.proofs.Dispatch.{cond-false}
+use Rattle.steps.proofs.Keeps.{bcase}
 use Rattle.link.specs.Runs.{Clocks, clockLimit, Entry}
 use Rattle.link.specs.Fresh.{Paired}
 use Rattle.link.proofs.Marks.{Mark, mark, at, snoc, Has}
@@ -37,7 +38,7 @@ use Rattle.link.proofs.Entries.{marks-snoc, honest-snoc, is-eq, FoundAt
 use Rattle.link.proofs.Entries.{marked-stamp, marked-body}
 use Rattle.link.proofs.Shown.{ShownAt, in-refresh, held-shown}
 use Rattle.link.proofs.Codes.{go-due, go-baseline, request-not-refresh, setup-not-refresh, refresh-not-setup}
-use Rattle.link.proofs.Codes.{pending-setup}
+use Rattle.link.proofs.Codes.{pending-setup, busy-due}
 
 module _ (c : Clocks) (sm ss : Settings) (p : Paired sm ss) {l : List Entry} {em es : Endpoint} {tm ts : ℕ} (t : ℕ)
     (lim : t ≤ clockLimit)
@@ -139,7 +140,11 @@ module _ (c : Clocks) (sm ss : Settings) (p : Paired sm ss) {l : List Entry} {em
         (setupData (em .settings) (requestOf (em .state)))
 
     asked-honest : Honest asking
-    asked-honest = record { writer = refl; value = λ h. absurd (true≢false (sym h ∙ request-not-refresh (em .state))) }
+    asked-honest = record {
+      writer = refl;
+      value = λ h. absurd (true≢false (sym h ∙ request-not-refresh (em .state)));
+      busy = λ h. absurd (false≢true h);
+    }
 
     go-asked : codeOf (requestOf (em .state)) ≡ 254
         → Has (GoOf (termsOf c sm ss) (marks l)
@@ -208,7 +213,8 @@ module _ (c : Clocks) (sm ss : Settings) (p : Paired sm ss) {l : List Entry} {em
         let v = q .live (d .refresh) in
         let n = refresh-not-setup (em .state) (d .refresh) in
         wrote (refreshSentOf em t) refreshing 255 0 value (L .master .phase) (L .setM) refresh-mark
-        (record { writer = role; value = λ h. refl }) refresh-above (λ h. absurd (omega arith))
+        (record { writer = role; value = λ h. refl; busy = λ h. absurd (false≢true h) }) refresh-above
+        (λ h. absurd (omega arith))
         (live-again (L .master .phase) (v .value) (v .phase) (L .inv .master .phase))
         (record {
           nextOut = ap suc time;
@@ -245,7 +251,8 @@ module _ (c : Clocks) (sm ss : Settings) (p : Paired sm ss) {l : List Entry} {em
         let z = above-top (em .timestamps .sent) (timeOf em t) (d .above role) in
         let y = time in
         wrote (stoppedOf em t) leaving 249 0 (setupData (em .settings) K.Disconnect) restM (L .setM) leaving-mark
-        (record { writer = refl; value = λ h. absurd (false≢true h) }) (omega arith) (λ h. absurd (omega arith)) tt
+        (record { writer = refl; value = λ h. absurd (false≢true h); busy = λ h. absurd (false≢true h) }) (omega arith)
+        (λ h. absurd (omega arith)) tt
         (record {
           nextOut = stop-stamp;
           nextIn = stop-accepted ∙ q .nextIn;
@@ -340,8 +347,22 @@ module _ (c : Clocks) (sm ss : Settings) (p : Paired sm ss) {l : List Entry} {em
       confirmed Refresh e h = absurd (false≢true h)
       confirmed Terminate e h = absurd (false≢true h)
 
-      pub confirmed-m : Linked c sm ss (t + c .master) l (confirmedOf em t) es tm ts
-      confirmed-m = confirmed (em .state) refl (d .setup)
+      -- Busy: nothing is pending, and m2 is not fixed yet
+      due-again : f .busy ≡ true → Linked c sm ss (t + c .master) l (dueAgainOf em t) es tm ts
+      due-again b =
+          let may : mayBeBusy (f .command) ≡ true =
+          subst (λ (y : Fields). y .busy ≡ true → mayBeBusy (y .command) ≡ true) (g .fields)
+          (L .honest k (g .there) .busy) b in
+          let u = busy-due (em .state) (ap mayBeBusy (sym due) ∙ may) in
+          rest (dueAgainOf em t) (L .setM) refl refl (u .0) (λ h. refl) (u .1)
+
+      abbrev Heard : Bool → Type 0
+      Heard busy = Linked c sm ss (t + c .master) l (cond busy (dueAgainOf em t) (confirmedOf em t)) es tm ts
+
+      pub heard-m : Heard (f .busy)
+      heard-m =
+          bcase (f .busy) (λ b. subst Heard (sym b) (due-again b))
+          (λ b. subst Heard (sym b) (confirmed (em .state) refl (d .setup)))
 
     -- an S-Refresh of the slave
     module _ (d : RefreshTaken em t (f .timestamp) body) (r : is (f .command) K.Refresh ≡ true) where

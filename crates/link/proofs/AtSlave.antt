@@ -10,7 +10,8 @@ use borrow.Author.Tests.{eqb-true}
 use Rattle.frame.specs.declared.Command.{Command}
 use Rattle.frame.specs.declared.Command.the-variants as K
 use Rattle.frame.specs.declared.Fields.{Fields}
-use Rattle.frame.specs.Control.{is, codeOf}
+use Rattle.frame.specs.Control.{is, codeOf, mayBeBusy}
+use Rattle.frame.proofs.Alike.{and-right}
 use Rattle.endpoint.specs.declared.Settings.{Settings}
 use Rattle.endpoint.specs.declared.State.{State}
 use Rattle.endpoint.specs.declared.State.the-variants.{RefreshPending, Refresh}
@@ -19,11 +20,13 @@ use Rattle.endpoint.specs.declared.Endpoint.{Endpoint}
 use Rattle.endpoint.specs.declared.Next.{Next}
 use Rattle.endpoint.specs.Table.{isState, isNo, nextOf, stateTo}
 use Rattle.endpoint.specs.Time.{span, minus, isExpired, isAbove, endedOf, allowanceOf, offsetFrom}
+use Rattle.endpoint.specs.Updates.{withNotReady}
 use Rattle.steps.specs.Frames.{timeOf, refreshFields, replyFields}
 use Rattle.steps.specs.Calls.{restartedOf, refreshSentOf, stoppedOf, isFailSafe, shownOf}
-use Rattle.steps.specs.Deliveries.{ageOf, paddedOf, refreshedOf, measuredBy, advancedOf, endedBy}
+use Rattle.steps.specs.Deliveries.{ageOf, paddedOf, refreshedOf, measuredBy, advancedOf, endedBy, isBusy, deferredOf}
 use Rattle.steps.specs.Laws.{RefreshSent, RequestTaken, RefreshTaken}
 use Rattle.steps.proofs.Dispatch.{cond-true}
+use Rattle.steps.proofs.Keeps.{bcase}
 use Rattle.link.specs.Runs.{Clocks, clockLimit, Entry}
 use Rattle.link.specs.Fresh.{Paired}
 use Rattle.link.proofs.Marks.{Mark, mark, at, snoc}
@@ -35,7 +38,7 @@ use Rattle.link.proofs.Relation.{setup-timer, refresh-timer, slave-time
 use Rattle.link.proofs.Entries.{marks-snoc, honest-snoc, FoundAt, in-log, the-mark, marked-code, marked-stamp}
 use Rattle.link.proofs.Entries.{marked-body}
 use Rattle.link.proofs.Shown.{ShownAt, in-refresh, held-shown}
-use Rattle.link.proofs.Codes.{refresh-not-setup, pending-setup, targetOf, leads, go-from}
+use Rattle.link.proofs.Codes.{refresh-not-setup, pending-setup, targetOf, leads, go-from, busy-from}
 
 module _ (c : Clocks) (sm ss : Settings) (p : Paired sm ss) {l : List Entry} {em es : Endpoint} {tm ts : ℕ} (t : ℕ)
     (lim : t ≤ clockLimit)
@@ -81,6 +84,27 @@ module _ (c : Clocks) (sm ss : Settings) (p : Paired sm ss) {l : List Entry} {em
       rest (stoppedOf es t) (L .setS) (ap (λ (b : Timestamps). topOf (b .sent)) q)
       (ap (λ (b : Timestamps). topOf (b .accepted)) q) refl refl
 
+  -- whether the station is ready is nothing that the relation turns on
+  pub told-s : (b : Bool) → Linked c sm ss (t + c .slave) l em (withNotReady b es) tm ts
+  told-s b =
+      let q = L .relS in
+      record {
+        master = L .master;
+        slave = L .slave;
+        setM = L .setM;
+        setS = L .setS;
+        relM = L .relM;
+        relS = record {
+          nextOut = q .nextOut;
+          nextIn = q .nextIn;
+          held = q .held;
+          live = λ h. let v = q .live h in record { value = v .value; phase = v .phase; holds = v .holds };
+          ready = λ h. let r = q .ready h in record { phase = r .phase; since = r .since };
+        };
+        honest = L .honest;
+        inv = L .inv;
+      }
+
   -- S-Refresh with the lent value
   module _ (value : List ℕ) (d : RefreshSent es t value) where
     abbrev pub refreshing : Entry
@@ -117,7 +141,11 @@ module _ (c : Clocks) (sm ss : Settings) (p : Paired sm ss) {l : List Entry} {em
             live = λ h. record { value = v .value; phase = v .phase; holds = v .holds };
             ready = λ h. absurd (true≢false (sym (pending-setup (es .state) h) ∙ n));
           };
-          honest = honest-snoc l refreshing (L .honest) (record { writer = role; value = λ h. refl });
+          honest = honest-snoc l refreshing (L .honest) (record {
+            writer = role;
+            value = λ h. refl;
+            busy = λ h. absurd (false≢true h);
+          });
           inv = subst (λ (x : List Mark). Inv (termsOf c sm ss) (t + c .slave) x (L .master) S)
               (sym (marks-snoc l refreshing ∙ ap (snoc (marks l)) refresh-mark))
               (s-sends (termsOf c sm ss) (small-of c sm ss p) t (t + c .slave) (es .setup .offset) (es .since) value
@@ -169,25 +197,26 @@ module _ (c : Clocks) (sm ss : Settings) (p : Paired sm ss) {l : List Entry} {em
             inv = s-hears (termsOf c sm ss) (small-of c sm ss p) k (in-log f body l k g) marked-who next-below (L .inv);
           }
 
-      -- a reply, with Error or not
-      module _ (error : Bool) (n : is (f .command) K.Refresh ≡ false) where
-        abbrev pub replying : Entry
-        replying = record {
-          slave = true;
-          moment = t + c .slave;
-          fields = replyFields es f error;
-          body = body;
-          lent = none;
-        }
+      -- a reply, with Busy or Error or neither
+      abbrev pub replying : Bool → Bool → Entry
+      replying busy error = record {
+        slave = true;
+        moment = t + c .slave;
+        fields = replyFields es f busy error;
+        body = body;
+        lent = none;
+      }
 
-        reply-mark : markOf replying ≡ mark 1 (codeOf (f .command)) (at (marks l) k .stamp) 0 (t + c .slave) body
+      module _ (busy error : Bool) (may : busy ≡ true → mayBeBusy (f .command) ≡ true)
+          (n : is (f .command) K.Refresh ≡ false) where
+        reply-mark : markOf (replying busy error) ≡ mark 1 (codeOf (f .command)) (at (marks l) k .stamp) 0 (t + c .slave) body
         reply-mark =
             let s : f .timestamp % span ≡ at (marks l) k .stamp = mod-eq-of-lt small-stamp
             ∙ sym (marked-stamp f body l k g) in
             λ i. mark (cond (n i) 2 1) (codeOf (f .command)) (s i) 0 (t + c .slave) body
 
-        reply-honest : Honest replying
-        reply-honest = record { writer = refl; value = λ h. absurd (true≢false (sym h ∙ n)) }
+        reply-honest : Honest (replying busy error)
+        reply-honest = record { writer = refl; value = λ h. absurd (true≢false (sym h ∙ n)); busy = may }
 
         replied : (e : Endpoint) (phase : SPhase) → e .settings ≡ ss
             → let S : Slave = record {
@@ -201,7 +230,7 @@ module _ (c : Clocks) (sm ss : Settings) (p : Paired sm ss) {l : List Entry} {em
             → Inv (termsOf c sm ss) (t + c .slave)
             (snoc (marks l) (mark 1 (codeOf (f .command)) (at (marks l) k .stamp) 0 (t + c .slave) body))
             (L .master) S
-            → Linked c sm ss (t + c .slave) (l ++ (replying ∷ [])) em e tm ts
+            → Linked c sm ss (t + c .slave) (l ++ (replying busy error ∷ [])) em e tm ts
         replied e phase s r v =
             let S : Slave = record {
               nextOut = L .slave .nextOut;
@@ -217,16 +246,16 @@ module _ (c : Clocks) (sm ss : Settings) (p : Paired sm ss) {l : List Entry} {em
               setS = s;
               relM = L .relM;
               relS = r;
-              honest = honest-snoc l replying (L .honest) reply-honest;
+              honest = honest-snoc l (replying busy error) (L .honest) reply-honest;
               inv = subst (λ (x : List Mark). Inv (termsOf c sm ss) (t + c .slave) x (L .master) S)
-                  (sym (marks-snoc l replying ∙ ap (snoc (marks l)) reply-mark)) v;
+                  (sym (marks-snoc l (replying busy error) ∙ ap (snoc (marks l)) reply-mark)) v;
             }
 
         -- the slave rests after its reply
         replied-rest : (e : Endpoint) → e .settings ≡ ss → topOf (e .timestamps .sent) ≡ topOf (es .timestamps .sent)
             → topOf (e .timestamps .accepted) ≡ suc (f .timestamp) → isState (e .state) Refresh ≡ false
             → isState (e .state) RefreshPending ≡ false
-            → Linked c sm ss (t + c .slave) (l ++ (replying ∷ [])) em e tm ts
+            → Linked c sm ss (t + c .slave) (l ++ (replying busy error ∷ [])) em e tm ts
         replied-rest e s o i r h =
             let q = L .relS in
             replied e restS s
@@ -240,8 +269,13 @@ module _ (c : Clocks) (sm ss : Settings) (p : Paired sm ss) {l : List Entry} {em
             (s-replies (termsOf c sm ss) (small-of c sm ss p) (t + c .slave) k (codeOf (f .command)) body restS refl
             (in-log f body l k g) marked-who next-below tt (L .inv))
 
-        pub unequal-s : Linked c sm ss (t + c .slave) (l ++ (replying ∷ [])) em (endedBy es (f .timestamp)) tm ts
-        unequal-s = replied-rest (endedBy es (f .timestamp)) (L .setS) refl refl refl refl
+      -- Busy 0
+      plain : false ≡ true → mayBeBusy (f .command) ≡ true
+      plain h = absurd (false≢true h)
+
+      pub unequal-s : is (f .command) K.Refresh ≡ false
+          → Linked c sm ss (t + c .slave) (l ++ (replying false true ∷ [])) em (endedBy es (f .timestamp)) tm ts
+      unequal-s n = replied-rest false true plain n (endedBy es (f .timestamp)) (L .setS) refl refl refl refl
 
       -- a request that is done
       module _ (d : RequestTaken es t f body) (x : isExpired es t ≡ false) (n : is (f .command) K.Refresh ≡ false)
@@ -253,13 +287,13 @@ module _ (c : Clocks) (sm ss : Settings) (p : Paired sm ss) {l : List Entry} {em
 
         -- S-RefreshReady: s2
         ready-s : f .command ≡ K.RefreshReady
-            → Linked c sm ss (t + c .slave) (l ++ (replying false n ∷ [])) em (advancedOf es t f) tm ts
+            → Linked c sm ss (t + c .slave) (l ++ (replying false false ∷ [])) em (advancedOf es t f) tm ts
         ready-s e =
             let q = L .relS in
             let s2 = to K.RefreshReady e in
             let m2 : advancedOf es t f .setup .measured ≡ t = ap
             (λ (y : Command). measuredBy y t (es .setup .measured)) e in
-            replied false n (advancedOf es t f) (armed t) (L .setS)
+            replied false false plain n (advancedOf es t f) (armed t) (L .setS)
             (record {
               nextOut = q .nextOut;
               nextIn = ap suc (sym (marked-stamp f body l k g));
@@ -273,7 +307,7 @@ module _ (c : Clocks) (sm ss : Settings) (p : Paired sm ss) {l : List Entry} {em
 
         -- S-RefreshGO: ts_offset
         go-s : f .command ≡ K.RefreshGo
-            → Linked c sm ss (t + c .slave) (l ++ (replying false n ∷ [])) em (advancedOf es t f) tm ts
+            → Linked c sm ss (t + c .slave) (l ++ (replying false false ∷ [])) em (advancedOf es t f) tm ts
         go-s e =
             let q = L .relS in
             let s2 = to K.RefreshGo e in
@@ -289,7 +323,7 @@ module _ (c : Clocks) (sm ss : Settings) (p : Paired sm ss) {l : List Entry} {em
             (λ j. minus (minus ((marked-stamp f body l k g) j) (marked-baseline j)) (es .setup .measured))
             ∙ sym (ap (λ (y : Command). cond (is y K.RefreshGo)
             (offsetFrom (f .timestamp) (f .baseline) (es .setup .measured)) (es .setup .offset)) e) in
-            replied false n (advancedOf es t f)
+            replied false false plain n (advancedOf es t f)
             (liveS (minus (minus (at (marks l) k .stamp) (at (marks l) k .baseline)) (es .setup .measured)) t
             none) (L .setS)
             (record {
@@ -305,14 +339,14 @@ module _ (c : Clocks) (sm ss : Settings) (p : Paired sm ss) {l : List Entry} {em
 
         plain-s : (q : Command) → f .command ≡ q → isState (targetOf q) Refresh ≡ false
             → isState (targetOf q) RefreshPending ≡ false
-            → Linked c sm ss (t + c .slave) (l ++ (replying false n ∷ [])) em (advancedOf es t f) tm ts
+            → Linked c sm ss (t + c .slave) (l ++ (replying false false ∷ [])) em (advancedOf es t f) tm ts
         plain-s q e h i =
-            replied-rest false n (advancedOf es t f) (L .setS) refl refl
+            replied-rest false false plain n (advancedOf es t f) (L .setS) refl refl
             (ap (λ (y : State). isState y Refresh) (to q e) ∙ h)
             (ap (λ (y : State). isState y RefreshPending) (to q e) ∙ i)
 
         by-command : (q : Command) → f .command ≡ q
-            → Linked c sm ss (t + c .slave) (l ++ (replying false n ∷ [])) em (advancedOf es t f) tm ts
+            → Linked c sm ss (t + c .slave) (l ++ (replying false false ∷ [])) em (advancedOf es t f) tm ts
         by-command K.Connect e = plain-s K.Connect e refl refl
         by-command K.ConfirmNetwork e = plain-s K.ConfirmNetwork e refl refl
         by-command K.VerifyStation e = plain-s K.VerifyStation e refl refl
@@ -321,8 +355,26 @@ module _ (c : Clocks) (sm ss : Settings) (p : Paired sm ss) {l : List Entry} {em
         by-command K.Refresh e = absurd (true≢false (sym (ap (λ (y : Command). is y K.Refresh) e) ∙ n))
         by-command K.Disconnect e = absurd (true≢false (sym (ap (λ (y : Command). is y K.Disconnect) e) ∙ o))
 
-        pub advanced-s : Linked c sm ss (t + c .slave) (l ++ (replying false n ∷ [])) em (advancedOf es t f) tm ts
+        advanced-s : Linked c sm ss (t + c .slave) (l ++ (replying false false ∷ [])) em (advancedOf es t f) tm ts
         advanced-s = by-command (f .command) refl
+
+        -- not ready: the slave rests after its Busy reply too
+        deferred-s : isBusy es (f .command) ≡ true
+            → Linked c sm ss (t + c .slave) (l ++ (replying true false ∷ [])) em (deferredOf es t f) tm ts
+        deferred-s b =
+            let may = and-right (es .station .notready) (mayBeBusy (f .command)) b in
+            let u = busy-from (f .command) may (es .state) (d .turn) in
+            replied-rest true false (λ h. may) n (deferredOf es t f) (L .setS) refl refl (u .0) (u .1)
+
+        abbrev Answered : Bool → Type 0
+        Answered busy =
+            Linked c sm ss (t + c .slave) (l ++ (replying busy false ∷ [])) em
+            (cond busy (deferredOf es t f) (advancedOf es t f)) tm ts
+
+        pub answered-s : Answered (isBusy es (f .command))
+        answered-s =
+            bcase (isBusy es (f .command)) (λ b. subst Answered (sym b) (deferred-s b))
+            (λ b. subst Answered (sym b) advanced-s)
 
     -- an S-Refresh of the master
     module _ (d : RefreshTaken es t (f .timestamp) body) (x : isExpired es t ≡ false)

@@ -5,7 +5,7 @@ use Prim.Native.Nat.{ℕ, _-_, _%_}
 use native.Mathlib.Omega.{arith}
 use Rattle.frame.specs.declared.Command.{Command}
 use Rattle.frame.specs.declared.Command.the-variants as K
-use Rattle.frame.specs.Control.{codeOf, is}
+use Rattle.frame.specs.Control.{codeOf, is, mayBeBusy}
 use Rattle.endpoint.specs.declared.State.{State}
 use Rattle.endpoint.specs.declared.State.the-variants.{Close, Starting, EstablishPending, Establish, ParamVerify}
 use Rattle.endpoint.specs.declared.State.the-variants.{RefreshPending, Refresh, Terminate}
@@ -88,3 +88,26 @@ leads K.Disconnect = each (Leads K.Disconnect) no (λ h. refl) (λ h. refl) (λ 
 pub go-from : (s : State) → isNo (nextOf K.RefreshGo s) ≡ false → isState s RefreshPending ≡ true
 go-from = each (λ s. isNo (nextOf K.RefreshGo s) ≡ false → isState s RefreshPending ≡ true) no no no no no (λ h. refl)
     no no
+
+-- Busy comes before s2 and m2 are fixed: neither in RefreshPending nor in Refresh
+abbrev pub Unfixed : State → Type 0
+Unfixed s = (isState s Refresh ≡ false) × (isState s RefreshPending ≡ false)
+
+abbrev Takes : Command → State → Type 0
+Takes k s = isNo (nextOf k s) ≡ false → Unfixed s
+
+-- at a slave, where such a request is taken
+pub busy-from : (k : Command) → mayBeBusy k ≡ true → (s : State) → isNo (nextOf k s) ≡ false → Unfixed s
+busy-from K.Connect b = off b
+busy-from K.ConfirmNetwork b = each (Takes K.ConfirmNetwork) no no (λ h. (refl, refl)) no no no no no
+busy-from K.VerifyStation b = each (Takes K.VerifyStation) no no no (λ h. (refl, refl)) no no no no
+busy-from K.RefreshReady b = each (Takes K.RefreshReady) no no no no (λ h. (refl, refl)) no no no
+busy-from K.RefreshGo b = off b
+busy-from K.Refresh b = off b
+busy-from K.Disconnect b = off b
+
+-- at a master, where such a request is due
+pub busy-due : (s : State) → mayBeBusy (requestOf s) ≡ true → Unfixed s
+busy-due =
+    each (λ s. mayBeBusy (requestOf s) ≡ true → Unfixed s) off off (λ h. (refl, refl)) (λ h. (refl, refl))
+    (λ h. (refl, refl)) off off off

@@ -81,7 +81,7 @@ module _ (c : Clocks) (sm ss : Settings) (p : Paired sm ss) {l : List Entry} {em
             let d = reply-done em t f body e in
             subst (KeepsM (deliver f body)) (sym (d .comes))
             (silent-m (deliver f body) Done _
-            (M.confirmed-m c sm ss p t lim L f body k g
+            (M.heard-m c sm ss p t lim L f body k g
             (other-bit (f .application) (em .settings .slave) h ∙ ap not role) d x))
         go (Dropped r) e = rw e (silent-m (deliver f body) (Dropped r) em L)
         go (Ended r) e = rw e (silent-m (deliver f body) (Ended r) (endedOf em) (M.ended-m c sm ss p t lim L))
@@ -95,9 +95,11 @@ module _ (c : Clocks) (sm ss : Settings) (p : Paired sm ss) {l : List Entry} {em
     at-master call h =
         bcase (isExpired em t)
         (λ x. rw x (expired false (t + c .master) t l em tm AtM L (M.ended-m c sm ss p t lim L)
-        (λ q. M.started-m c sm ss p t lim L) (M.restarted-m c sm ss p t lim L) call))
+        (λ q. M.started-m c sm ss p t lim L) (M.restarted-m c sm ss p t lim L)
+        (λ q b. absurd (true≢false (sym q ∙ role))) call))
         (λ x. rw x (acted false (t + c .master) t l em tm AtM L (M.ended-m c sm ss p t lim L)
         (λ q. M.started-m c sm ss p t lim L) (M.restarted-m c sm ss p t lim L)
+        (λ q b. absurd (true≢false (sym q ∙ role)))
         (λ value d. sent-m value x d) stopped-m
         (λ f body k g q r d.
         let o = other-bit (f .application) (em .settings .slave) q ∙ ap not role in
@@ -169,10 +171,10 @@ module _ (c : Clocks) (sm ss : Settings) (p : Paired sm ss) {l : List Entry} {em
         replies Done e q =
             let d = request-done es t f body q e in
             subst (KeepsS (deliver f body)) (sym (d .comes))
-            (S.advanced-s c sm ss p t lim L f body k g masters (d .above) d x n q)
+            (S.answered-s c sm ss p t lim L f body k g masters (d .above) d x n q)
         replies (Dropped r) e q = rw e (silent-s (deliver f body) (Dropped r) es L)
         replies (Ended r) e q = rw (e, q)
-            (S.unequal-s c sm ss p t lim L f body k g masters (ends (Ended r) e refl) true n)
+            (S.unequal-s c sm ss p t lim L f body k g masters (ends (Ended r) e refl) n)
 
     pub at-slave : (call : Call) → mayDeliver l call ≡ true
         → Linked c sm ss (t + c .slave) (l ++ logged true (t + c .slave) call (callOf es t call .writes)) em
@@ -183,9 +185,11 @@ module _ (c : Clocks) (sm ss : Settings) (p : Paired sm ss) {l : List Entry} {em
     at-slave call h =
         bcase (isExpired es t)
         (λ x. rw x (expired true (t + c .slave) t l es ts AtS L (S.ended-s c sm ss p t lim L)
-        (λ q. absurd (true≢false (sym slave-role ∙ q))) (S.restarted-s c sm ss p t lim L) call))
+        (λ q. absurd (true≢false (sym slave-role ∙ q))) (S.restarted-s c sm ss p t lim L)
+        (λ q. S.told-s c sm ss p t lim L) call))
         (λ x. rw x (acted true (t + c .slave) t l es ts AtS L (S.ended-s c sm ss p t lim L)
         (λ q. absurd (true≢false (sym slave-role ∙ q))) (S.restarted-s c sm ss p t lim L)
+        (λ q. S.told-s c sm ss p t lim L)
         (λ value d. sent-s value d) stopped-s
         (λ f body k g q r d.
         let o = other-bit (f .application) (es .settings .slave) q ∙ ap not slave-role in

@@ -21,13 +21,14 @@ use Rattle.endpoint.specs.declared.Answer.the-variants.{Done, Dropped, Ended}
 use Rattle.endpoint.specs.Answers.{firstOf, isDone, isDropped}
 use Rattle.endpoint.specs.Table.{isState}
 use Rattle.endpoint.specs.Time.{endedOf}
+use Rattle.endpoint.specs.Updates.{withNotReady}
 use Rattle.steps.specs.Frames.{nothing}
 use Rattle.steps.specs.Calls.{Outcome, outcome, dropped, startedOf, restartedOf, sendFaults, sentOf, sendOf, stopFaults}
 use Rattle.steps.specs.Calls.{stopOf}
 use Rattle.steps.specs.Deliveries.{refreshFaults, refreshedOf, paddedOf, takeRefresh, deliverOf}
 use Rattle.steps.proofs.Dispatch.{cond-true, cond-false, deliver-echo, deliver-refresh}
 use Rattle.steps.proofs.Keeps.{bcase}
-use Rattle.steps.specs.Steps.{Act, start, stop, restart, Call, act, send, deliver, show, actOf, stepOf}
+use Rattle.steps.specs.Steps.{Act, start, stop, restart, setNotReady, Call, act, send, deliver, show, actOf, stepOf}
 use Rattle.link.specs.Runs.{Entry, logged, lastOf, mayDeliver, tookBy}
 use Rattle.link.proofs.Entries.{FoundAt, found-at}
 
@@ -64,7 +65,8 @@ refresh-cases P e t stamp body p q r = go (firstOf (refreshFaults e t stamp (len
 module _ (slave : Bool) (m t : ℕ) (l : List Entry) (e : Endpoint) (took : ℕ) (K : List Entry → Endpoint → ℕ → Type 0)
     (base : K l e took) (ended : K l (endedOf e) took)
     (started : e .settings .slave ≡ false → K l (startedOf e t) took)
-    (restarted : K l (restartedOf e) took) where
+    (restarted : K l (restartedOf e) took)
+    (told : e .settings .slave ≡ true → (b : Bool) → K l (withNotReady b e) took) where
   -- what a call that takes no S-Refresh keeps
   unfoldable pub Keeps : Call → Outcome → Type 0
   Keeps call o = K (l ++ logged slave m call (o .writes)) (o .endpoint) took
@@ -148,6 +150,12 @@ module _ (slave : Bool) (m t : ℕ) (l : List Entry) (e : Endpoint) (took : ℕ)
     acts restart =
         bcase (isState (e .state) Terminate) (λ k. rw k (silent (act restart) Done (restartedOf e) restarted))
         (λ k. rw k (silent (act restart) (Dropped R.Turn) e base))
+    acts (setNotReady b) =
+        bcase (e .settings .slave)
+        (λ k. subst (Keeps (act (setNotReady b))) (sym (cond-true (e .settings .slave) _ _ k))
+        (silent (act (setNotReady b)) Done (withNotReady b e) (told k b)))
+        (λ k. subst (Keeps (act (setNotReady b))) (sym (cond-false (e .settings .slave) _ _ k))
+        (silent (act (setNotReady b)) (Dropped R.Turn) e base))
 
     -- every call but a deliver takes nothing
     pub acted : (call : Call) → mayDeliver l call ≡ true → Kept call (stepOf e t call)

@@ -1,4 +1,5 @@
--- The theorem's premises can be met: a line starts, refreshes both ways, and shows both values. All of it is computed.
+-- The theorem's premises can be met: a line starts, its station at times not ready, refreshes both ways, and shows
+-- both values. All of it is computed.
 use mathlib.Core.Path.{_≡_, refl}
 use mathlib.Core.Bool.{Bool, true, false}
 use mathlib.Core.List.{List, [], _∷_, _++_}
@@ -8,7 +9,7 @@ use Rattle.frame.specs.declared.Command.{Command}
 use Rattle.frame.specs.declared.Command.the-variants as K
 use Rattle.endpoint.specs.declared.Settings.{Settings}
 use Rattle.steps.specs.Frames.{plainFields, setupData}
-use Rattle.steps.specs.Steps.{start, Call, act, send, deliver, show}
+use Rattle.steps.specs.Steps.{start, setNotReady, Call, act, send, deliver, show}
 use Rattle.link.specs.Runs.{Clocks, Event, sameFields, lastFrom, lastOf, shown, Link}
 use Rattle.link.specs.Fresh.{Paired, runOf}
 
@@ -34,28 +35,40 @@ at-slave t call = record { slave = true; clock = t; call = call }
 clocks : Clocks
 clocks = record { master = 5000; slave = 0 }
 
--- a request written at t, taken by the slave, and its reply taken by the master one tick later each
-exchange : ℕ → Command → ℕ → List Event
-exchange t k baseline =
+-- a request written at t, taken by the slave, and its reply, Busy or not, taken by the master one tick later each
+answered : Bool → ℕ → Command → ℕ → List Event
+answered busy t k baseline =
     at-master t (send [])
     ∷ at-slave (5001 + t)
-    (deliver (plainFields k false false false 0x01020103 t baseline) (setupData (settings false) k))
-    ∷ at-master (2 + t) (deliver (plainFields k true false true 0x01020103 t 0) (setupData (settings false) k)) ∷ []
+    (deliver (plainFields k false false false false 0x01020103 t baseline) (setupData (settings false) k))
+    ∷ at-master (2 + t) (deliver (plainFields k true busy false true 0x01020103 t 0) (setupData (settings false) k)) ∷ []
+
+exchange : ℕ → Command → ℕ → List Event
+exchange t k baseline = answered false t k baseline
+
+-- the same while the station is not ready
+postponed : ℕ → Command → List Event
+postponed t k =
+    (at-slave (5000 + t) (act (setNotReady true)) ∷ [])
+    ++ (answered true t k 0 ++ (at-slave (5002 + t) (act (setNotReady false)) ∷ []))
 
 line : List Event
 line =
     (at-master 9 (act start) ∷ [])
     ++ (exchange 10 K.Connect 0
+    ++ (postponed 15 K.ConfirmNetwork
     ++ (exchange 20 K.ConfirmNetwork 0
+    ++ (postponed 25 K.VerifyStation
     ++ (exchange 30 K.VerifyStation 0
+    ++ (postponed 35 K.RefreshReady
     ++ (exchange 40 K.RefreshReady 0
     ++ (exchange 50 K.RefreshGo 8
     ++ (at-master 60 (send (1 ∷ 2 ∷ 3 ∷ 4 ∷ []))
-    ∷ at-slave 5061 (deliver (plainFields K.Refresh false false false 0x01020103 60 0) (1 ∷ 2 ∷ 3 ∷ 4 ∷ []))
+    ∷ at-slave 5061 (deliver (plainFields K.Refresh false false false false 0x01020103 60 0) (1 ∷ 2 ∷ 3 ∷ 4 ∷ []))
     ∷ at-slave 5070 show
     ∷ at-slave 5071 (send (5 ∷ 6 ∷ 7 ∷ 8 ∷ []))
-    ∷ at-master 72 (deliver (plainFields K.Refresh false false true 0x01020103 72 0) (5 ∷ 6 ∷ 7 ∷ 8 ∷ []))
-    ∷ at-master 80 show ∷ []))))))
+    ∷ at-master 72 (deliver (plainFields K.Refresh false false false true 0x01020103 72 0) (5 ∷ 6 ∷ 7 ∷ 8 ∷ []))
+    ∷ at-master 80 show ∷ [])))))))))
 
 run : Link
 run = runOf (settings false) (settings true) clocks line
@@ -70,10 +83,10 @@ paired = record {
 }
 
 allowed : run .allowed ≡ true
-unfolding run line exchange clocks at-master at-slave settings setupData sameFields lastFrom lastOf
+unfolding run line postponed exchange answered clocks at-master at-slave settings setupData sameFields lastFrom lastOf
 allowed = refl
 
 shows : run .shows ≡
-    (shown true 5070 (1 ∷ 2 ∷ 3 ∷ 4 ∷ []) 11 11 ∷ shown false 5080 (5 ∷ 6 ∷ 7 ∷ 8 ∷ []) 12 12 ∷ [])
-unfolding run line exchange clocks at-master at-slave settings setupData sameFields lastFrom lastOf
+    (shown true 5070 (1 ∷ 2 ∷ 3 ∷ 4 ∷ []) 17 17 ∷ shown false 5080 (5 ∷ 6 ∷ 7 ∷ 8 ∷ []) 18 18 ∷ [])
+unfolding run line postponed exchange answered clocks at-master at-slave settings setupData sameFields lastFrom lastOf
 shows = refl

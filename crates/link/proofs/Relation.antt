@@ -10,7 +10,7 @@ use lib.ListN.{length}
 use borrow.Author.Tests.{ltb-true, ltb-false, le-leb, lt-leb}
 use Rattle.frame.specs.declared.Command.the-variants as K
 use Rattle.frame.specs.declared.Fields.{Fields}
-use Rattle.frame.specs.Control.{is, codeOf}
+use Rattle.frame.specs.Control.{is, codeOf, mayBeBusy}
 use Rattle.endpoint.specs.declared.Settings.{Settings}
 use Rattle.endpoint.specs.declared.State.the-variants.{Refresh, RefreshPending}
 use Rattle.endpoint.specs.declared.Timestamp.{Timestamp}
@@ -116,10 +116,11 @@ pub record RelS (e : Endpoint) (took : ℕ) (s : Slave) : Type 0 where
   pub ready : isState (e .state) RefreshPending ≡ true → ArmedAt e s
 
 -- ---- both, and the log
--- an entry's frame tells its writer, and an S-Refresh that a send was lent its body
+-- an entry's frame tells its writer; an S-Refresh that a send was lent its body; and Busy stands where it may
 pub record Honest (w : Entry) : Type 0 where
   pub writer : w .fields .application ≡ w .slave
   pub value : is (w .fields .command) K.Refresh ≡ true → w .lent ≡ some (w .body)
+  pub busy : w .fields .busy ≡ true → mayBeBusy (w .fields .command) ≡ true
 
 pub record Linked (c : Clocks) (sm ss : Settings) (now : ℕ) (l : List Entry) (em es : Endpoint) (tm ts : ℕ) : Type 0
   where

@@ -59,7 +59,7 @@ abbrev pub noEntry : Entry
 noEntry = record {
   slave = false;
   moment = 0;
-  fields = plainFields K.Connect false false false 0 0 0;
+  fields = plainFields K.Connect false false false false 0 0 0;
   body = [];
   lent = none;
 }

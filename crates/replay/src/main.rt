@@ -9,6 +9,7 @@ use device::Entry;
 use endpoint::Answer;
 use libc::STDIN_FILENO;
 use libc::STDOUT_FILENO;
+use text::Act;
 use text::Line;
 
 // The device; the length of the output that calls are lent; the place of the line in the input, counted from 1; how
@@ -125,6 +126,15 @@ fn restart(r: Replay, clock: u64, entry: u32, out: &[u8]) -> Replay {
     after(r, device::calls::restart(device, clock, entry), out)
 }
 
+fn set_not_ready(r: Replay, clock: u64, entry: u32, notready: bool, out: &[u8]) -> Replay {
+    let device = r.device;
+    after(
+        r,
+        device::calls::set_not_ready(device, clock, entry, notready),
+        out,
+    )
+}
+
 fn stop(r: Replay, clock: u64, entry: u32, out: &mut [u8]) -> Replay {
     let device = r.device;
     let called = device::calls::stop(device, clock, entry, out);
@@ -135,6 +145,18 @@ fn show(r: Replay, clock: u64, entry: u32, out: &mut [u8]) -> Replay {
     let device = r.device;
     let called = device::calls::show(device, clock, entry, out);
     after(r, called, out)
+}
+
+// A call that has a clock reading and an entry alone.
+fn act_on(r: Replay, act: Act, clock: u64, entry: u32, out: &mut [u8]) -> Replay {
+    match act {
+        Act::Start => start(r, clock, entry, out),
+        Act::Stop => stop(r, clock, entry, out),
+        Act::Restart => restart(r, clock, entry, out),
+        Act::Show => show(r, clock, entry, out),
+        Act::NotReady => set_not_ready(r, clock, entry, true, out),
+        Act::Ready => set_not_ready(r, clock, entry, false, out),
+    }
 }
 
 fn send_bytes(r: Replay, clock: u64, entry: u32, bytes: &[u8], n: usize, out: &mut [u8]) -> Replay {
@@ -203,15 +225,12 @@ fn run(r: Replay, line: &[u8], out: &mut [u8]) -> Replay {
     let parsed = text::parse::parse(line);
     match parsed {
         Line::Load => load(r, line),
-        Line::Start { clock, entry } => start(r, clock, entry, out),
-        Line::Stop { clock, entry } => stop(r, clock, entry, out),
-        Line::Restart { clock, entry } => restart(r, clock, entry, out),
+        Line::Timed { act, clock, entry } => act_on(r, act, clock, entry, out),
         Line::Send {
             clock,
             entry,
             start,
         } => send(r, clock, entry, line, start, out),
-        Line::Show { clock, entry } => show(r, clock, entry, out),
         Line::Deliver { clock, start } => deliver(r, clock, line, start, out),
         Line::Check { start } => with_going(r, check(line, start)),
         Line::Room(room) => with_room(r, room),

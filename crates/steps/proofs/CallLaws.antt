@@ -8,7 +8,8 @@ use Rattle.endpoint.specs.declared.Reason.{Reason}
 use Rattle.endpoint.specs.declared.Answer.the-variants.{Dropped}
 use Rattle.endpoint.specs.Table.{isState}
 use Rattle.steps.specs.Calls.{dropped}
-use Rattle.steps.specs.Steps.{Act, start, stop, restart, Call, act, send, deliver, show, actOf, stepOf}
+use Rattle.steps.specs.Steps.{Act, start, stop, restart, setNotReady, Call, act, send, deliver, show, actOf}
+use Rattle.steps.specs.Steps.{stepOf}
 use Rattle.steps.specs.Laws.{Carries, SettingsFit, IsTyped, HandsBytes, StepLaws}
 use Rattle.steps.proofs.Carried as C
 use Rattle.steps.proofs.Dones as D
@@ -21,6 +22,7 @@ act-keeps : (e : Endpoint) (t : ℕ) (a : Act) → actOf e t a .endpoint .settin
 act-keeps e t start = P.start-keeps e t
 act-keeps e t stop = P.stop-keeps e t
 act-keeps e t restart = P.restart-keeps e t
+act-keeps e t (setNotReady b) = P.not-ready-keeps e t b
 
 keeps : (e : Endpoint) (t : ℕ) (call : Call) → stepOf e t call .endpoint .settings ≡ e .settings
 keeps e t (act a) = act-keeps e t a
@@ -28,11 +30,12 @@ keeps e t (send value) = P.send-keeps e t value
 keeps e t (deliver f body) = P.deliver-keeps e t f body
 keeps e t show = refl
 
--- ---- what is written; start and restart write nothing
+-- ---- what is written; only stop writes
 act-carries : (e : Endpoint) (t : ℕ) (a : Act) → Carries e (actOf e t a .writes)
 act-carries e t start = bcase (not (e .settings .slave) && isState (e .state) Close) (λ h. rw h tt) (λ h. rw h tt)
 act-carries e t stop = C.stop-carries e t
 act-carries e t restart = bcase (isState (e .state) Terminate) (λ h. rw h tt) (λ h. rw h tt)
+act-carries e t (setNotReady b) = bcase (e .settings .slave) (λ h. rw h tt) (λ h. rw h tt)
 
 carries : (e : Endpoint) (t : ℕ) (call : Call) → Carries e (stepOf e t call .writes)
 carries e t (act a) = act-carries e t a
@@ -44,6 +47,7 @@ act-typed : (e : Endpoint) (t : ℕ) (a : Act) → SettingsFit (e .settings) →
 act-typed e t start f = bcase (not (e .settings .slave) && isState (e .state) Close) (λ h. rw h tt) (λ h. rw h tt)
 act-typed e t stop f = T.stop-typed e t f
 act-typed e t restart f = bcase (isState (e .state) Terminate) (λ h. rw h tt) (λ h. rw h tt)
+act-typed e t (setNotReady b) f = bcase (e .settings .slave) (λ h. rw h tt) (λ h. rw h tt)
 
 typed : (e : Endpoint) (t : ℕ) (call : Call) → SettingsFit (e .settings) → HandsBytes call
     → IsTyped (stepOf e t call .writes)
@@ -58,6 +62,7 @@ act-drops : (e : Endpoint) (t : ℕ) (a : Act) (r : Reason) → actOf e t a .ans
 act-drops e t start r d = D.start-dropped e t r d
 act-drops e t stop r d = D.stop-dropped e t r d
 act-drops e t restart r d = D.restart-dropped e t r d
+act-drops e t (setNotReady b) r d = D.not-ready-dropped e t b r d
 
 drops : (e : Endpoint) (t : ℕ) (call : Call) (r : Reason) → stepOf e t call .answer ≡ Dropped r
     → stepOf e t call ≡ dropped e (Dropped r)
@@ -74,6 +79,7 @@ step-laws = record {
   drops = drops;
   start-done = D.start-done;
   restart-done = λ e. D.restart-done e 0;
+  not-ready-set = λ e. D.not-ready-set e 0;
   send-done = D.send-done;
   stop-done = D.stop-done;
   refresh-done = D.refresh-done;

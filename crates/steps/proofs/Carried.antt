@@ -12,7 +12,7 @@ use Rattle.frame.specs.Writing.{isBodyLength}
 use Rattle.frame.proofs.Alike.{and-left}
 use Rattle.endpoint.specs.declared.State.the-variants.{Refresh}
 use Rattle.endpoint.specs.declared.Endpoint.{Endpoint}
-use Rattle.endpoint.specs.Answers.{firstOf, isDropped, isEnded}
+use Rattle.endpoint.specs.Answers.{firstOf, isDone, isDropped, isEnded}
 use Rattle.endpoint.specs.Table.{isState, isSetup}
 use Rattle.steps.specs.Calls.{Outcome, isNothing, mayRequest, sendFaults, sendOf, stopFaults, stopOf}
 use Rattle.steps.specs.Deliveries.{requestFaults, repliedOf, deliverOf}
@@ -62,7 +62,7 @@ module _ (e : Endpoint) (t : ℕ) where
       let n = neither (isDropped a) (is (f .command) K.Disconnect) h in
       let l : isBodyLength (length body) ≡ true = rw (request-width e f body (n .0))
       (setup-length (e .settings) (f .command)) in
-      rw h (reply-writable e t f (isEnded a) (length body) k (n .1) l, refl, sym m))
+      rw h (reply-writable e t f (isDone a) (isEnded a) (length body) k (n .1) l, refl, sym m))
 
   pub deliver-carries : (f : Fields) (body : List ℕ) → Carries e (deliverOf e t f body .writes)
   deliver-carries f body =

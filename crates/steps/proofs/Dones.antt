@@ -25,14 +25,14 @@ use Rattle.endpoint.specs.Answers.{firstOf, isDropped}
 use Rattle.endpoint.specs.Table.{isState, isSetup, requestOf}
 use Rattle.endpoint.specs.Time.{isAbove}
 use Rattle.steps.specs.Frames.{setupData, showWidth, timeOf}
-use Rattle.steps.specs.Calls.{Outcome, dropped, isNothing, startOf, restartOf, sendFaults, sendOf, stopFaults}
-use Rattle.steps.specs.Calls.{stopOf}
+use Rattle.steps.specs.Calls.{Outcome, dropped, isNothing, startOf, restartOf, setNotReadyOf, sendFaults, sendOf}
+use Rattle.steps.specs.Calls.{stopFaults, stopOf}
 use Rattle.steps.specs.Deliveries.{isAsked, answersTo, refreshFaults, requestFaults, replyFaults, takeRefresh}
 use Rattle.steps.specs.Deliveries.{takeRequest, takeReply, deliverOf}
-use Rattle.steps.specs.Laws.{StartDone, RestartDone, RefreshSent, RequestSent, StopDone, RefreshTaken}
+use Rattle.steps.specs.Laws.{StartDone, RestartDone, NotReadySet, RefreshSent, RequestSent, StopDone, RefreshTaken}
 use Rattle.steps.specs.Laws.{RequestTaken, DisconnectTaken, ReplyTaken}
 use Rattle.steps.proofs.Carried.{may-request, master-requests}
-use Rattle.steps.proofs.Dispatch.{deliver-echo, deliver-refresh, deliver-request, deliver-reply}
+use Rattle.steps.proofs.Dispatch.{cond-false, deliver-echo, deliver-refresh, deliver-request, deliver-reply}
 use Rattle.steps.proofs.Firsts.{not-dropped, not-soon, first-done, sent-width, neither}
 use Rattle.steps.proofs.Keeps.{bcase}
 
@@ -68,6 +68,10 @@ module _ (e : Endpoint) (t : ℕ) where
       bcase (isState (e .state) Terminate) (λ h. record { terminated = h; comes = rw h })
       (λ h. absurd (not-done R.Turn (rw h at d)))
 
+  pub not-ready-set : (b : Bool) → setNotReadyOf e b .answer ≡ Done → NotReadySet e b
+  not-ready-set b d =
+      bcase (e .settings .slave) (λ h. record { slave = h; comes = rw h }) (λ h. absurd (not-done R.Turn (rw h at d)))
+
   pub start-dropped : (r : Reason) → startOf e t .answer ≡ Dropped r → startOf e t ≡ dropped e (Dropped r)
   start-dropped r d =
       bcase (not (e .settings .slave) && isState (e .state) Close) (λ h. absurd (not-done r (sym (rw h at d))))
@@ -77,6 +81,14 @@ module _ (e : Endpoint) (t : ℕ) where
   restart-dropped r d =
       bcase (isState (e .state) Terminate) (λ h. absurd (not-done r (sym (rw h at d))))
       (λ h. let p : Dropped R.Turn ≡ Dropped r = rw h at d in rw h (ap (dropped e) p))
+
+  pub not-ready-dropped : (b : Bool) (r : Reason) → setNotReadyOf e b .answer ≡ Dropped r
+      → setNotReadyOf e b ≡ dropped e (Dropped r)
+  not-ready-dropped b r d =
+      bcase (e .settings .slave) (λ h. absurd (not-done r (sym (rw h at d))))
+      (λ h.
+      let q : setNotReadyOf e b ≡ dropped e (Dropped R.Turn) = cond-false (e .settings .slave) _ _ h in
+      q ∙ ap (dropped e) (sym (ap (λ (o : Outcome). o .answer) q) ∙ d))
 
   -- ---- send
   above-sent : (n : ℕ) → isDropped (firstOf (sendFaults e t n)) ≡ false

@@ -15,10 +15,10 @@ use Rattle.endpoint.specs.declared.State.the-variants.{Close, Refresh, Terminat
 use Rattle.endpoint.specs.Answers.{firstOf, isDropped}
 use Rattle.endpoint.specs.Table.{isState}
 use Rattle.endpoint.specs.Time.{endedOf}
-use Rattle.steps.specs.Calls.{Outcome, startOf, restartOf, sendFaults, sendOf, stopFaults, stopOf}
-use Rattle.steps.specs.Deliveries.{leftBy, takenOf, endedBy, advancedOf, refreshedOf, paddedOf, confirmedOf}
-use Rattle.steps.specs.Deliveries.{requestFaults, refreshFaults, replyFaults, takeRefresh, takeRequest, takeReply}
-use Rattle.steps.specs.Deliveries.{deliverOf}
+use Rattle.steps.specs.Calls.{Outcome, startOf, restartOf, setNotReadyOf, sendFaults, sendOf, stopFaults, stopOf}
+use Rattle.steps.specs.Deliveries.{leftBy, isBusy, deferredOf, answeredOf, takenOf, endedBy, advancedOf}
+use Rattle.steps.specs.Deliveries.{refreshedOf, paddedOf, confirmedOf, dueAgainOf, heardOf, requestFaults}
+use Rattle.steps.specs.Deliveries.{refreshFaults, replyFaults, takeRefresh, takeRequest, takeReply, deliverOf}
 use Rattle.steps.proofs.Dispatch.{deliver-echo, deliver-refresh, deliver-request, deliver-reply}
 
 -- by cases on a test
@@ -32,10 +32,10 @@ left-keeps s Done x y z p q r = r
 left-keeps s (Dropped n) x y z p q r = p
 left-keeps s (Ended n) x y z p q r = q
 
-taken-keeps : (e : Endpoint) (t : ℕ) (f : Fields) (b : Bool)
-    → cond b (endedBy e (f .timestamp)) (advancedOf e t f) .settings ≡ e .settings
-taken-keeps e t f true = refl
-taken-keeps e t f false = refl
+either-keeps : (s : Settings) (b : Bool) (x y : Endpoint) → x .settings ≡ s → y .settings ≡ s
+    → cond b x y .settings ≡ s
+either-keeps s true x y p q = p
+either-keeps s false x y p q = q
 
 module _ (e : Endpoint) (t : ℕ) where
   pub start-keeps : startOf e t .endpoint .settings ≡ e .settings
@@ -43,6 +43,9 @@ module _ (e : Endpoint) (t : ℕ) where
 
   pub restart-keeps : restartOf e .endpoint .settings ≡ e .settings
   restart-keeps = bcase (isState (e .state) Terminate) (λ h. rw h) (λ h. rw h)
+
+  pub not-ready-keeps : (b : Bool) → setNotReadyOf e b .endpoint .settings ≡ e .settings
+  not-ready-keeps b = bcase (e .settings .slave) (λ h. rw h) (λ h. rw h)
 
   pub send-keeps : (value : List ℕ) → sendOf e t value .endpoint .settings ≡ e .settings
   send-keeps value =
@@ -60,9 +63,11 @@ module _ (e : Endpoint) (t : ℕ) where
       (refreshedOf e t (f .timestamp) (paddedOf body)) refl refl refl in
       let q : takeRequest e t f body .endpoint .settings ≡ s =
       left-keeps s (firstOf (requestFaults e f body)) e (endedBy e (f .timestamp)) (takenOf e t f) refl refl
-      (taken-keeps e t f (is (f .command) K.Disconnect)) in
+      (either-keeps s (is (f .command) K.Disconnect) (endedBy e (f .timestamp)) (answeredOf e t f) refl
+      (either-keeps s (isBusy e (f .command)) (deferredOf e t f) (advancedOf e t f) refl refl)) in
       let r : takeReply e t f body .endpoint .settings ≡ s =
-      left-keeps s (firstOf (replyFaults e f body)) e (endedOf e) (confirmedOf e t) refl refl refl in
+      left-keeps s (firstOf (replyFaults e f body)) e (endedOf e) (heardOf e t f) refl refl
+      (either-keeps s (f .busy) (dueAgainOf e t) (confirmedOf e t) refl refl) in
       bcase (Bool·beq (f .application) (e .settings .slave))
       (λ h. ap (λ (o : Outcome). o .endpoint .settings) (deliver-echo e t f body h))
       (λ h. bcase (is (f .command) K.Refresh)

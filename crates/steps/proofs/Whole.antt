@@ -1,7 +1,7 @@
 -- A frame that can be written is written whole to an output of 248 bytes or more; and every frame that an endpoint
 -- writes can be.
 use mathlib.Core.Path.{_≡_, refl}
-use mathlib.Core.Bool.{Bool, true, false, _&&_, not, cond, or-true}
+use mathlib.Core.Bool.{Bool, true, false, _&&_, _||_, not, cond, or-true}
 use mathlib.Core.List.{List}
 use Prim.Native.Nat.{ℕ, _+_, _-_, _*_, _%_, _^_, _≤_, _<_}
 use native.Mathlib.Omega.{arith}
@@ -11,7 +11,7 @@ use borrow.Author.Tests.{le-leb, leb-true, lt-ltb, eq-eqb}
 use Rattle.frame.specs.declared.Command.{Command}
 use Rattle.frame.specs.declared.Command.the-variants as K
 use Rattle.frame.specs.declared.Fields.{Fields}
-use Rattle.frame.specs.Control.{is, hasForm}
+use Rattle.frame.specs.Control.{is, mayBeBusy, hasForm}
 use Rattle.frame.specs.Writing.{isBodyLength, isWritable, writtenOf, WriteSays}
 use Rattle.frame.proofs.Alike.{and-left, and-right, both}
 use Rattle.frame.proofs.Lengths.{can-be-written}
@@ -24,6 +24,7 @@ use Rattle.endpoint.specs.Table.{requestOf}
 use Rattle.endpoint.specs.Time.{span}
 use Rattle.steps.specs.Frames.{setupData, widthOf, sendWidth, showWidth, timeOf, plainFields, baselineOf}
 use Rattle.steps.specs.Frames.{requestFields, refreshFields, disconnectFields, replyFields}
+use Rattle.steps.specs.Deliveries.{isBusy}
 use Rattle.steps.specs.Says.{WholeSays}
 
 pub whole : (f : Fields) (body out : List ℕ) {out′ : List ℕ} {count : ℕ} → 248 ≤ length out
@@ -60,7 +61,8 @@ value-length words = by-test (leb 1 words && leb words 25) refl
 
 -- ---- the form of each frame
 request-form : (s : State) (connection timestamp t measured : ℕ)
-    → hasForm (plainFields (requestOf s) false false false connection timestamp (baselineOf (requestOf s) t measured))
+    → hasForm
+    (plainFields (requestOf s) false false false false connection timestamp (baselineOf (requestOf s) t measured))
     ≡ true
 unfolding hasForm
 request-form Close connection timestamp t measured = refl
@@ -73,11 +75,18 @@ request-form Refresh connection timestamp t measured = refl
 request-form Terminate connection timestamp t measured = refl
 
 -- a reply: to any command but S-Refresh and S-Disconnect
-reply-form : (k : Command) (error : Bool) (connection timestamp : ℕ) → is k K.Refresh ≡ false
-    → is k K.Disconnect ≡ false
-    → hasForm (plainFields k true error true connection timestamp 0) ≡ true
+reply-form : (k : Command) (busy error : Bool) (connection timestamp : ℕ) → is k K.Refresh ≡ false
+    → is k K.Disconnect ≡ false → (not busy || mayBeBusy k) ≡ true
+    → hasForm (plainFields k true busy error true connection timestamp 0) ≡ true
 unfolding hasForm
-reply-form k error connection timestamp r d = rw (r, d, or-true (not error))
+reply-form k busy error connection timestamp r d b = rw (r, d, b, or-true (not error))
+
+-- Busy in the replies that may have it: a done, n not ready, m may be busy
+busy-fits : (a n m : Bool) → (not (a && (n && m)) || m) ≡ true
+busy-fits true true true = refl
+busy-fits true true false = refl
+busy-fits true false m = refl
+busy-fits false n m = refl
 
 -- a timestamp below 2^48 and a body's length complete the form
 writable : (f : Fields) (n : ℕ) → hasForm f ≡ true → f .timestamp < 2 ^ 48 → isBodyLength n ≡ true
@@ -103,12 +112,14 @@ module _ (e : Endpoint) (t : ℕ) where
       writable (disconnectFields e t) (length (setupData (e .settings) K.Disconnect)) refl (omega arith)
       (setup-length (e .settings) K.Disconnect)
 
-  pub reply-writable : (f : Fields) (error : Bool) (n : ℕ) → is (f .command) K.Refresh ≡ false
+  pub reply-writable : (f : Fields) (done error : Bool) (n : ℕ) → is (f .command) K.Refresh ≡ false
       → is (f .command) K.Disconnect ≡ false
-      → isBodyLength n ≡ true → isWritable (replyFields e f error) n ≡ true
-  reply-writable f error n r d l =
-      writable (replyFields e f error) n
-      (reply-form (f .command) error (e .settings .connection) (f .timestamp % span) r d) (omega arith) l
+      → isBodyLength n ≡ true → isWritable (replyFields e f (done && isBusy e (f .command)) error) n ≡ true
+  reply-writable f done error n r d l =
+      let busy = done && isBusy e (f .command) in
+      writable (replyFields e f busy error) n
+      (reply-form (f .command) busy error (e .settings .connection) (f .timestamp % span) r d
+      (busy-fits done (e .station .notready) (mayBeBusy (f .command)))) (omega arith) l
 
 pub send-width-length : (s : Settings) → isBodyLength (sendWidth s) ≡ true
 send-width-length s = value-length (cond (s .slave) (s .slavewords) (s .masterwords))

@@ -1,4 +1,4 @@
--- What each user's call does: start, send, stop, restart, show.
+-- What each user's call does: start, send, stop, restart, set not ready, show.
 use mathlib.Core.Bool.{Bool, true, false, _&&_, _||_, not, cond}
 use mathlib.Core.List.{List}
 use Prim.Native.Nat.{ℕ}
@@ -19,7 +19,7 @@ use Rattle.endpoint.specs.declared.Faults.{Faults}
 use Rattle.endpoint.specs.Answers.{callFaults, firstOf, isDropped}
 use Rattle.endpoint.specs.Table.{isState, isSetup, requestOf}
 use Rattle.endpoint.specs.Time.{isAbove, noValue, endedOf}
-use Rattle.endpoint.specs.Updates.{endpointOf, inState, timedFrom, withTimestamps, withPending, holding}
+use Rattle.endpoint.specs.Updates.{endpointOf, inState, timedFrom, withTimestamps, withPending, withNotReady, holding}
 use Rattle.steps.specs.Frames.{Written, nothing, written, setupData, sendWidth, showWidth, timeOf, requestFields}
 use Rattle.steps.specs.Frames.{refreshFields, disconnectFields}
 
@@ -40,7 +40,7 @@ dropped e a = outcome a e nothing
 abbrev pub freshOf : Settings → Endpoint
 freshOf s =
     endpointOf s Close 0 (record { sent = Never; accepted = Never })
-    (record { pending = Nothing; measured = 0; offset = 0 }) noValue
+    (record { pending = Nothing; measured = 0; offset = 0 }) (record { notready = false }) noValue
 
 -- ---- start: a master's, in Close
 abbrev pub startedOf : Endpoint → ℕ → Endpoint
@@ -57,6 +57,11 @@ restartedOf e = inState Close (holding noValue e)
 
 abbrev pub restartOf : Endpoint → Outcome
 restartOf e = cond (isState (e .state) Terminate) (outcome Done (restartedOf e) nothing) (dropped e (Dropped R.Turn))
+
+-- ---- not ready, set or cleared: a slave's, in any state
+abbrev pub setNotReadyOf : Endpoint → Bool → Outcome
+setNotReadyOf e b =
+    cond (e .settings .slave) (outcome Done (withNotReady b e) nothing) (dropped e (Dropped R.Turn))
 
 -- ---- send: a master's next request in setup if none is pending; S-Refresh in Refresh
 abbrev pub isNothing : Pending → Bool

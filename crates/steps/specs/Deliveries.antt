@@ -7,7 +7,7 @@ use lib.ListN.{length, take, drop, replicate}
 use Rattle.frame.specs.declared.Command.{Command}
 use Rattle.frame.specs.declared.Command.the-variants as K
 use Rattle.frame.specs.declared.Fields.{Fields}
-use Rattle.frame.specs.Control.{is}
+use Rattle.frame.specs.Control.{is, mayBeBusy}
 use Rattle.frame.specs.Reading.{same}
 use Rattle.endpoint.specs.declared.State.the-variants.{Refresh}
 use Rattle.endpoint.specs.declared.Timestamp.the-variants.{At}
@@ -19,10 +19,10 @@ use Rattle.endpoint.specs.declared.Reason.the-variants as R
 use Rattle.endpoint.specs.declared.Answer.{Answer}
 use Rattle.endpoint.specs.declared.Answer.the-variants.{Done, Dropped, Ended}
 use Rattle.endpoint.specs.declared.Faults.{Faults}
-use Rattle.endpoint.specs.Answers.{setupFaults, firstOf, isDropped, isEnded}
+use Rattle.endpoint.specs.Answers.{setupFaults, firstOf, isDone, isDropped, isEnded}
 use Rattle.endpoint.specs.Table.{isState, isSetup, nextOf, isNo, stateTo, requestOf}
 use Rattle.endpoint.specs.Time.{minus, isAbove, isTooFarAhead, allowanceOf, isTooLate, offsetFrom, noValue, endedOf}
-use Rattle.endpoint.specs.Updates.{inState, timedFrom, withTimestamps, withSetup, holding}
+use Rattle.endpoint.specs.Updates.{inState, timedFrom, withTimestamps, withSetup, withPending, holding}
 use Rattle.steps.specs.Frames.{Written, nothing, written, setupData, showWidth, timeOf, replyFields}
 use Rattle.steps.specs.Calls.{Outcome, outcome, dropped}
 
@@ -94,14 +94,27 @@ advancedOf e t f =
     (withSetup (e .setup .pending) (measuredBy (f .command) t (e .setup .measured)) (offsetBy e f)
     (holding noValue e))))
 
+-- a station that is not ready answers S-InitConfirmNetPrm, S-InitVerifyStnPrm and S-RefreshReady with Busy 1
+abbrev pub isBusy : Endpoint → Command → Bool
+isBusy e k = e .station .notready && mayBeBusy k
+
+-- its state stays, s2 too; the timestamp counts as accepted, and the timer runs from the reply (001: ST26, ST30, ST33)
+abbrev pub deferredOf : Endpoint → ℕ → Fields → Endpoint
+deferredOf e t f = timedFrom t (withTimestamps (acceptedOf e (f .timestamp)) e)
+
+-- what a request that is done leaves once it has its reply
+abbrev pub answeredOf : Endpoint → ℕ → Fields → Endpoint
+answeredOf e t f = cond (isBusy e (f .command)) (deferredOf e t f) (advancedOf e t f)
+
 -- what a request that is done leaves
 abbrev pub takenOf : Endpoint → ℕ → Fields → Endpoint
-takenOf e t f = cond (is (f .command) K.Disconnect) (endedBy e (f .timestamp)) (advancedOf e t f)
+takenOf e t f = cond (is (f .command) K.Disconnect) (endedBy e (f .timestamp)) (answeredOf e t f)
 
--- the reply, with Error 1 where the contents differ; S-Disconnect has none
+-- the reply, with Error 1 and never Busy where the contents differ; S-Disconnect has none
 abbrev pub repliedOf : Endpoint → Fields → List ℕ → Answer → Written
 repliedOf e f body a =
-    cond (isDropped a || is (f .command) K.Disconnect) nothing (written (replyFields e f (isEnded a)) body)
+    cond (isDropped a || is (f .command) K.Disconnect) nothing
+    (written (replyFields e f (isDone a && isBusy e (f .command)) (isEnded a)) body)
 
 abbrev pub takeRequest : Endpoint → ℕ → Fields → List ℕ → Outcome
 takeRequest e t f body =
@@ -132,10 +145,19 @@ confirmedOf e t =
     (timedFrom t (withSetup Nothing (measuredBy (requestOf (e .state)) t (e .setup .measured)) (e .setup .offset)
     (holding noValue e)))
 
+-- Busy: the request is due again, with a new timestamp; the timer starts afresh, the state and m2 stay (001: MT30 to
+-- MT32)
+abbrev pub dueAgainOf : Endpoint → ℕ → Endpoint
+dueAgainOf e t = timedFrom t (withPending Nothing e)
+
+-- what a reply that is done leaves
+abbrev pub heardOf : Endpoint → ℕ → Fields → Endpoint
+heardOf e t f = cond (f .busy) (dueAgainOf e t) (confirmedOf e t)
+
 abbrev pub takeReply : Endpoint → ℕ → Fields → List ℕ → Outcome
 takeReply e t f body =
     let a = firstOf (replyFaults e f body) in
-    outcome a (leftBy a e (endedOf e) (confirmedOf e t)) nothing
+    outcome a (leftBy a e (endedOf e) (heardOf e t f)) nothing
 
 -- ---- a frame of this connection: one's own reflected first (number 10), then by its command and the role
 abbrev pub deliverOf : Endpoint → ℕ → Fields → List ℕ → Outcome

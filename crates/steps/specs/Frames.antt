@@ -58,11 +58,11 @@ abbrev pub timeOf : Endpoint → ℕ → ℕ
 timeOf e t = masterTime (e .settings .slave) (e .setup .offset) t
 
 -- fields with nothing of what 01 does not use
-abbrev pub plainFields : Command → Bool → Bool → Bool → ℕ → ℕ → ℕ → Fields
-plainFields k ack error application connection timestamp baseline = record {
+abbrev pub plainFields : Command → Bool → Bool → Bool → Bool → ℕ → ℕ → ℕ → Fields
+plainFields k ack busy error application connection timestamp baseline = record {
   command = k;
   ack = ack;
-  busy = false;
+  busy = busy;
   error = error;
   sequence = false;
   application = application;
@@ -79,17 +79,18 @@ baselineOf k t measured = cond (is k K.RefreshGo) ((t - measured) % 65536) 0
 -- a master's setup request
 abbrev pub requestFields : Endpoint → ℕ → Fields
 requestFields e t =
-    plainFields (requestOf (e .state)) false false false (e .settings .connection) (timeOf e t)
+    plainFields (requestOf (e .state)) false false false false (e .settings .connection) (timeOf e t)
     (baselineOf (requestOf (e .state)) t (e .setup .measured))
 
 -- S-Refresh; Application tells the direction
 abbrev pub refreshFields : Endpoint → ℕ → Fields
-refreshFields e t = plainFields K.Refresh false false (e .settings .slave) (e .settings .connection) (timeOf e t) 0
+refreshFields e t = plainFields K.Refresh false false false (e .settings .slave) (e .settings .connection) (timeOf e t) 0
 
 -- a master's S-Disconnect
 abbrev pub disconnectFields : Endpoint → ℕ → Fields
-disconnectFields e t = plainFields K.Disconnect false false false (e .settings .connection) (timeOf e t) 0
+disconnectFields e t = plainFields K.Disconnect false false false false (e .settings .connection) (timeOf e t) 0
 
 -- a slave's reply: Cmd, timestamp (of 48 bits) and S-Data of the request
-abbrev pub replyFields : Endpoint → Fields → Bool → Fields
-replyFields e f error = plainFields (f .command) true error true (e .settings .connection) (f .timestamp % span) 0
+abbrev pub replyFields : Endpoint → Fields → Bool → Bool → Fields
+replyFields e f busy error =
+    plainFields (f .command) true busy error true (e .settings .connection) (f .timestamp % span) 0

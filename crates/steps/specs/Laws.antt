@@ -1,6 +1,6 @@
 -- What holds of the calls, for whoever uses them and does not look at their text.
 use mathlib.Core.Path.{_≡_}
-use mathlib.Core.Bool.{true, false}
+use mathlib.Core.Bool.{Bool, true, false}
 use mathlib.Core.List.{List}
 use mathlib.Core.Logic.{_⊎_}
 use Prim.Native.Nat.{ℕ, _+_, _*_, _^_, _<_}
@@ -18,11 +18,12 @@ use Rattle.endpoint.specs.declared.Reason.{Reason}
 use Rattle.endpoint.specs.declared.Answer.the-variants.{Done, Dropped}
 use Rattle.endpoint.specs.Table.{isState, isSetup, isNo, nextOf, requestOf}
 use Rattle.endpoint.specs.Time.{isAbove, isTooFarAhead, isTooLate, allowanceOf}
+use Rattle.endpoint.specs.Updates.{withNotReady}
 use Rattle.steps.specs.Frames.{Written, nothing, written, setupData, sendWidth, showWidth, timeOf, requestFields}
 use Rattle.steps.specs.Frames.{refreshFields, replyFields}
 use Rattle.steps.specs.Calls.{outcome, dropped, startedOf, restartedOf, requestedOf, refreshSentOf, stoppedOf}
-use Rattle.steps.specs.Calls.{disconnectOf, startOf, restartOf, sendOf, stopOf}
-use Rattle.steps.specs.Deliveries.{paddedOf, refreshedOf, advancedOf, endedBy, confirmedOf, takeRefresh}
+use Rattle.steps.specs.Calls.{disconnectOf, startOf, restartOf, setNotReadyOf, sendOf, stopOf}
+use Rattle.steps.specs.Deliveries.{paddedOf, refreshedOf, isBusy, answeredOf, endedBy, heardOf, takeRefresh}
 use Rattle.steps.specs.Deliveries.{takeRequest, takeReply, ageOf}
 use Rattle.steps.specs.Steps.{Call, act, send, deliver, show, stepOf}
 
@@ -64,6 +65,10 @@ pub record RestartDone (e : Endpoint) : Type 0 where
   pub terminated : isState (e .state) Terminate ≡ true
   pub comes : restartOf e ≡ outcome Done (restartedOf e) nothing
 
+pub record NotReadySet (e : Endpoint) (b : Bool) : Type 0 where
+  pub slave : e .settings .slave ≡ true
+  pub comes : setNotReadyOf e b ≡ outcome Done (withNotReady b e) nothing
+
 pub record RefreshSent (e : Endpoint) (t : ℕ) (value : List ℕ) : Type 0 where
   pub refresh : isState (e .state) Refresh ≡ true
   pub width : length value ≡ sendWidth (e .settings)
@@ -96,7 +101,8 @@ pub record RequestTaken (e : Endpoint) (t : ℕ) (f : Fields) (body : List ℕ) 
   pub turn : isNo (nextOf (f .command) (e .state)) ≡ false
   pub above : isAbove (e .timestamps .accepted) (f .timestamp) ≡ true
   pub contents : body ≡ setupData (e .settings) (f .command)
-  pub comes : takeRequest e t f body ≡ outcome Done (advancedOf e t f) (written (replyFields e f false) body)
+  pub comes : takeRequest e t f body
+      ≡ outcome Done (answeredOf e t f) (written (replyFields e f (isBusy e (f .command)) false) body)
 
 pub record DisconnectTaken (e : Endpoint) (t : ℕ) (f : Fields) (body : List ℕ) : Type 0 where
   pub turn : isNo (nextOf (f .command) (e .state)) ≡ false
@@ -109,7 +115,7 @@ pub record ReplyTaken (e : Endpoint) (t : ℕ) (f : Fields) (body : List ℕ) : 
   pub command : is (f .command) (requestOf (e .state)) ≡ true
   pub sound : f .error ≡ false
   pub contents : body ≡ setupData (e .settings) (requestOf (e .state))
-  pub comes : takeReply e t f body ≡ outcome Done (confirmedOf e t) nothing
+  pub comes : takeReply e t f body ≡ outcome Done (heardOf e t f) nothing
 
 pub record StepLaws : Type 0 where
   -- settings never change
@@ -124,6 +130,7 @@ pub record StepLaws : Type 0 where
   -- what done tells
   pub start-done : (e : Endpoint) (t : ℕ) → startOf e t .answer ≡ Done → StartDone e t
   pub restart-done : (e : Endpoint) → restartOf e .answer ≡ Done → RestartDone e
+  pub not-ready-set : (e : Endpoint) (b : Bool) → setNotReadyOf e b .answer ≡ Done → NotReadySet e b
   pub send-done : (e : Endpoint) (t : ℕ) (value : List ℕ) → sendOf e t value .answer ≡ Done
       → RefreshSent e t value ⊎ RequestSent e t value
   pub stop-done : (e : Endpoint) (t : ℕ) → stopOf e t .answer ≡ Done → StopDone e t

@@ -1,18 +1,20 @@
 -- Every call on an endpoint, and what it comes to.
+use mathlib.Core.Bool.{Bool}
 use mathlib.Core.List.{List}
 use Prim.Native.Nat.{ℕ}
 use Rattle.frame.specs.declared.Fields.{Fields}
 use Rattle.endpoint.specs.declared.Endpoint.{Endpoint}
 use Rattle.endpoint.specs.declared.Answer.the-variants.{Done}
 use Rattle.steps.specs.Frames.{nothing}
-use Rattle.steps.specs.Calls.{Outcome, outcome, startOf, sendOf, stopOf, restartOf}
+use Rattle.steps.specs.Calls.{Outcome, outcome, startOf, sendOf, stopOf, restartOf, setNotReadyOf}
 use Rattle.steps.specs.Deliveries.{deliverOf}
 
--- the calls that hand over nothing, and show nothing
+-- the calls that hand over no bytes, and show nothing
 pub data Act : Type 0 where
   start : Act
   stop : Act
   restart : Act
+  setNotReady : Bool → Act
 
 pub data Call : Type 0 where
   act : Act → Call
@@ -24,6 +26,7 @@ abbrev pub actOf : Endpoint → ℕ → Act → Outcome
 actOf e t start = startOf e t
 actOf e t stop = stopOf e t
 actOf e t restart = restartOf e
+actOf e t (setNotReady b) = setNotReadyOf e b
 
 -- what a call does to an endpoint whose timer has not expired; a show changes nothing
 abbrev pub stepOf : Endpoint → ℕ → Call → Outcome

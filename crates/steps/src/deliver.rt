@@ -11,8 +11,8 @@ ghost use Rattle.endpoint.specs.Answers.{firstOf};
 ghost use Rattle.steps.specs.Frames.{setupData};
 ghost use Rattle.steps.specs.Deliveries.{leftBy, acceptedOf, ageOf, refreshFaults, paddedOf, refreshedOf};
 ghost use Rattle.steps.specs.Deliveries.{takeRefresh, requestFaults, endedBy, measuredBy, offsetBy, advancedOf};
-ghost use Rattle.steps.specs.Deliveries.{takenOf, takeRequest, isAsked, answersTo, replyFaults, confirmedOf};
-ghost use Rattle.steps.specs.Deliveries.{takeReply, deliverOf};
+ghost use Rattle.steps.specs.Deliveries.{isBusy, deferredOf, answeredOf, takenOf, takeRequest, isAsked, answersTo};
+ghost use Rattle.steps.specs.Deliveries.{replyFaults, confirmedOf, dueAgainOf, heardOf, takeReply, deliverOf};
 ghost use Rattle.steps.specs.Says.{plainStep, withRoom, StepSays};
 use super::Stepped;
 use super::lifecycle::stepped;
@@ -33,6 +33,7 @@ use endpoint::Timestamp;
 use endpoint::Timestamps;
 use endpoint::Value;
 use endpoint::answers::first_of;
+use endpoint::answers::is_done;
 use endpoint::answers::is_dropped;
 use endpoint::answers::is_ended;
 use endpoint::table::is_no;
@@ -52,6 +53,7 @@ use endpoint::time::offset_from;
 use frame::Command;
 use frame::Fields;
 use frame::control::is;
+use frame::control::may_be_busy;
 use frame::read::same;
 
 // The endpoint that an answer leaves.
@@ -137,6 +139,7 @@ fn refreshed(e: Endpoint, clock: u64, stamp: u64, bytes: [u8; 100]) -> Endpoint
     let settings = e.settings;
     let state = e.state;
     let setup = e.setup;
+    let station = e.station;
     let timestamps = accepted(e, stamp);
     Endpoint {
         settings: settings,
@@ -144,6 +147,7 @@ fn refreshed(e: Endpoint, clock: u64, stamp: u64, bytes: [u8; 100]) -> Endpoint
         since: clock,
         timestamps: timestamps,
         setup: setup,
+        station: station,
         value: Value {
             taken: true,
             bytes: bytes,
@@ -206,6 +210,7 @@ fn ended_by(e: Endpoint, stamp: u64) -> Endpoint
 {
     let settings = e.settings;
     let setup = e.setup;
+    let station = e.station;
     let timestamps = accepted(e, stamp);
     Endpoint {
         settings: settings,
@@ -213,6 +218,7 @@ fn ended_by(e: Endpoint, stamp: u64) -> Endpoint
         since: e.since,
         timestamps: timestamps,
         setup: setup,
+        station: station,
         value: no_value(),
     }
 }
@@ -243,6 +249,7 @@ fn advanced(e: Endpoint, clock: u64, f: Fields) -> Endpoint
     let settings = e.settings;
     let state = e.state;
     let setup = e.setup;
+    let station = e.station;
     let pending = setup.pending;
     let k = f.command;
     let next = state_to(next_state(k, state), state);
@@ -259,8 +266,54 @@ fn advanced(e: Endpoint, clock: u64, f: Fields) -> Endpoint
             measured: measured,
             offset: offset,
         },
+        station: station,
         value: no_value(),
     }
+}
+
+// Whether a slave's reply to a command has Busy 1.
+fn is_busy(e: Endpoint, k: Command) -> bool
+    ensures { λ r. ⌜ r ≡ isBusy e k ⌝ }
+{
+    e.station.notready & may_be_busy(k)
+}
+
+// The state stays, and s2; the timer runs from the Busy reply.
+fn deferred(e: Endpoint, clock: u64, f: Fields) -> Endpoint
+    ensures { λ r. ⌜ r ≡ deferredOf e clock f ⌝ }
+{
+    let settings = e.settings;
+    let state = e.state;
+    let setup = e.setup;
+    let pending = setup.pending;
+    let s2 = setup.measured;
+    let station = e.station;
+    let value = e.value;
+    let timestamps = accepted(e, f.timestamp);
+    Endpoint {
+        settings: settings,
+        state: state,
+        since: clock,
+        timestamps: timestamps,
+        setup: Setup {
+            pending: pending,
+            measured: s2,
+            offset: setup.offset,
+        },
+        station: station,
+        value: value,
+    }
+}
+
+// What a request that is done leaves once it has its reply.
+fn answered(e: Endpoint, clock: u64, f: Fields) -> Endpoint
+    ensures { λ r. ⌜ r ≡ answeredOf e clock f ⌝ }
+{
+    let k = f.command;
+    if is_busy(e, k) {
+        return deferred(e, clock, f);
+    }
+    advanced(e, clock, f)
 }
 
 // What a request that is done leaves.
@@ -271,7 +324,7 @@ fn taken(e: Endpoint, clock: u64, f: Fields) -> Endpoint
     if is(k, Command::Disconnect) {
         return ended_by(e, f.timestamp);
     }
-    advanced(e, clock, f)
+    answered(e, clock, f)
 }
 
 // A request at a slave, with its reply.
@@ -285,7 +338,8 @@ fn take_request(e: Endpoint, clock: u64, f: Fields, body: &[u8], out: &mut [u8])
     if is_dropped(answer) | is(k, Command::Disconnect) {
         return stepped(answer, next, 0);
     }
-    let count = write_whole(reply_fields(e, f, is_ended(answer)), body, out);
+    let busy = is_done(answer) & is_busy(e, k);
+    let count = write_whole(reply_fields(e, f, busy, is_ended(answer)), body, out);
     stepped(answer, next, count)
 }
 
@@ -339,6 +393,7 @@ fn confirmed(e: Endpoint, clock: u64) -> Endpoint
     let settings = e.settings;
     let state = e.state;
     let timestamps = e.timestamps;
+    let station = e.station;
     let k = request_of(state);
     let next = state_to(next_state(k, state), state);
     let measured = measured_by(k, clock, e.setup.measured);
@@ -352,8 +407,46 @@ fn confirmed(e: Endpoint, clock: u64) -> Endpoint
             measured: measured,
             offset: e.setup.offset,
         },
+        station: station,
         value: no_value(),
     }
+}
+
+// Nothing is pending, so that the same request is due again; the state stays, and m2; the timer runs from the Busy
+// reply.
+fn due_again(e: Endpoint, clock: u64) -> Endpoint
+    ensures { λ r. ⌜ r ≡ dueAgainOf e clock ⌝ }
+{
+    let settings = e.settings;
+    let state = e.state;
+    let timestamps = e.timestamps;
+    let setup = e.setup;
+    let m2 = setup.measured;
+    let station = e.station;
+    let value = e.value;
+    Endpoint {
+        settings: settings,
+        state: state,
+        since: clock,
+        timestamps: timestamps,
+        setup: Setup {
+            pending: Pending::Nothing,
+            measured: m2,
+            offset: setup.offset,
+        },
+        station: station,
+        value: value,
+    }
+}
+
+// What a reply that is done leaves.
+fn heard(e: Endpoint, clock: u64, f: Fields) -> Endpoint
+    ensures { λ r. ⌜ r ≡ heardOf e clock f ⌝ }
+{
+    if f.busy {
+        return due_again(e, clock);
+    }
+    confirmed(e, clock)
 }
 
 // A reply at a master.
@@ -361,7 +454,7 @@ fn take_reply(e: Endpoint, clock: u64, f: Fields, body: &[u8]) -> Stepped
     ensures { λ r. ⌜ r ≡ plainStep (takeReply e clock f (now (body .entry))) ⌝ }
 {
     let answer = reply_answer(e, f, body);
-    stepped(answer, left_by(answer, e, ended(e), confirmed(e, clock)), 0)
+    stepped(answer, left_by(answer, e, ended(e), heard(e, clock, f)), 0)
 }
 
 // A frame of this connection. A slave's request writes its reply.

@@ -1,9 +1,11 @@
-// A user's calls that begin and end a connection: fresh, start, stop, restart.
+// A user's calls that begin and end a connection, or say that its station is not ready: fresh, start, stop, restart,
+// set_not_ready.
 ghost use mathlib.Core.Path.{_≡_};
 ghost use lib.ListN.{length};
 ghost use Rattle.endpoint.specs.Answers.{firstOf};
+ghost use Rattle.endpoint.specs.Updates.{withNotReady};
 ghost use Rattle.steps.specs.Calls.{freshOf, startedOf, startOf, restartedOf, restartOf, stampedOf, stopFaults};
-ghost use Rattle.steps.specs.Calls.{stoppedOf, stopOf};
+ghost use Rattle.steps.specs.Calls.{stoppedOf, stopOf, setNotReadyOf};
 ghost use Rattle.steps.specs.Says.{steppedOf, plainStep, withRoom, StepSays};
 use super::Stepped;
 use super::requests::disconnect_fields;
@@ -17,6 +19,7 @@ use endpoint::Reason;
 use endpoint::Settings;
 use endpoint::Setup;
 use endpoint::State;
+use endpoint::Station;
 use endpoint::Timestamp;
 use endpoint::Timestamps;
 use endpoint::answers::first_of;
@@ -43,6 +46,7 @@ pub fn fresh(s: Settings) -> Endpoint
             measured: 0,
             offset: 0,
         },
+        station: Station { notready: false },
         value: no_value(),
     }
 }
@@ -62,6 +66,7 @@ fn started(e: Endpoint, clock: u64) -> Endpoint
 {
     let settings = e.settings;
     let timestamps = e.timestamps;
+    let station = e.station;
     Endpoint {
         settings: settings,
         state: State::Starting,
@@ -72,6 +77,7 @@ fn started(e: Endpoint, clock: u64) -> Endpoint
             measured: e.setup.measured,
             offset: e.setup.offset,
         },
+        station: station,
         value: no_value(),
     }
 }
@@ -93,12 +99,14 @@ fn restarted(e: Endpoint) -> Endpoint
     let settings = e.settings;
     let remembered = e.timestamps;
     let setup = e.setup;
+    let station = e.station;
     Endpoint {
         settings: settings,
         state: State::Close,
         since: e.since,
         timestamps: remembered,
         setup: setup,
+        station: station,
         value: no_value(),
     }
 }
@@ -110,6 +118,35 @@ pub fn restart(e: Endpoint) -> Stepped
     let state = e.state;
     if is_state(state, State::Terminate) {
         return stepped(Answer::Done, restarted(e), 0);
+    }
+    stepped(Answer::Dropped(Reason::Turn), e, 0)
+}
+
+fn with_not_ready(e: Endpoint, notready: bool) -> Endpoint
+    ensures { λ r. ⌜ r ≡ withNotReady notready e ⌝ }
+{
+    let settings = e.settings;
+    let state = e.state;
+    let timestamps = e.timestamps;
+    let setup = e.setup;
+    let value = e.value;
+    Endpoint {
+        settings: settings,
+        state: state,
+        since: e.since,
+        timestamps: timestamps,
+        setup: setup,
+        station: Station { notready: notready },
+        value: value,
+    }
+}
+
+// A slave's user sets 'not ready', or clears it, in any state.
+pub fn set_not_ready(e: Endpoint, notready: bool) -> Stepped
+    ensures { λ r. ⌜ r ≡ plainStep (setNotReadyOf e notready) ⌝ }
+{
+    if e.settings.slave {
+        return stepped(Answer::Done, with_not_ready(e, notready), 0);
     }
     stepped(Answer::Dropped(Reason::Turn), e, 0)
 }
@@ -161,6 +198,7 @@ fn stopped(e: Endpoint, clock: u64) -> Endpoint
 {
     let settings = e.settings;
     let setup = e.setup;
+    let station = e.station;
     let timestamps = stop_stamps(e, clock);
     Endpoint {
         settings: settings,
@@ -168,6 +206,7 @@ fn stopped(e: Endpoint, clock: u64) -> Endpoint
         since: e.since,
         timestamps: timestamps,
         setup: setup,
+        station: station,
         value: no_value(),
     }
 }

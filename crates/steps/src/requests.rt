@@ -4,7 +4,6 @@ ghost use mathlib.Core.List.{_++_};
 ghost use Prim.Native.Nat.{_≤_};
 ghost use lib.ListN.{length};
 ghost use Rattle.frame.specs.Words.{wordBytes};
-ghost use Rattle.frame.specs.Control.{is};
 ghost use Rattle.steps.specs.Frames.{setupData, widthOf, sendWidth, showWidth, timeOf, plainFields, baselineOf};
 ghost use Rattle.steps.specs.Frames.{requestFields, refreshFields, disconnectFields, replyFields};
 ghost use Rattle.steps.specs.Says.{DataSays, WholeSays};
@@ -127,18 +126,19 @@ pub(crate) fn stamp_of(e: Endpoint, clock: u64) -> u64
 fn plain_fields(
     command: Command,
     ack: bool,
+    busy: bool,
     error: bool,
     application: bool,
     connection: u32,
     timestamp: u64,
     baseline: u16,
 ) -> Fields
-    ensures { λ r. ⌜ r ≡ plainFields command ack error application connection timestamp baseline ⌝ }
+    ensures { λ r. ⌜ r ≡ plainFields command ack busy error application connection timestamp baseline ⌝ }
 {
     Fields {
         command: command,
         ack: ack,
-        busy: false,
+        busy: busy,
         error: error,
         sequence: false,
         application: application,
@@ -170,6 +170,7 @@ pub(crate) fn request_fields(e: Endpoint, clock: u64) -> Fields
         false,
         false,
         false,
+        false,
         e.settings.connection,
         stamp,
         baseline_of(k, clock, e.setup.measured),
@@ -182,6 +183,7 @@ pub(crate) fn refresh_fields(e: Endpoint, clock: u64) -> Fields
     let stamp = stamp_of(e, clock);
     plain_fields(
         Command::Refresh,
+        false,
         false,
         false,
         e.settings.slave,
@@ -200,19 +202,21 @@ pub(crate) fn disconnect_fields(e: Endpoint, clock: u64) -> Fields
         false,
         false,
         false,
+        false,
         e.settings.connection,
         stamp,
         0,
     )
 }
 
-pub(crate) fn reply_fields(e: Endpoint, f: Fields, error: bool) -> Fields
-    ensures { λ r. ⌜ r ≡ replyFields e f error ⌝ }
+pub(crate) fn reply_fields(e: Endpoint, f: Fields, busy: bool, error: bool) -> Fields
+    ensures { λ r. ⌜ r ≡ replyFields e f busy error ⌝ }
 {
     let k = f.command;
     plain_fields(
         k,
         true,
+        busy,
         error,
         true,
         e.settings.connection,

@@ -74,6 +74,7 @@ fn requested(e: Endpoint, clock: u64) -> Endpoint
 {
     let settings = e.settings;
     let state = e.state;
+    let station = e.station;
     let value = e.value;
     let stamp = stamp_of(e, clock);
     let timestamps = stamped(e, stamp);
@@ -87,6 +88,7 @@ fn requested(e: Endpoint, clock: u64) -> Endpoint
             measured: e.setup.measured,
             offset: e.setup.offset,
         },
+        station: station,
         value: value,
     }
 }
@@ -97,6 +99,7 @@ fn refresh_sent(e: Endpoint, clock: u64) -> Endpoint
     let settings = e.settings;
     let state = e.state;
     let setup = e.setup;
+    let station = e.station;
     let value = e.value;
     let timestamps = stamped(e, stamp_of(e, clock));
     Endpoint {
@@ -105,6 +108,7 @@ fn refresh_sent(e: Endpoint, clock: u64) -> Endpoint
         since: e.since,
         timestamps: timestamps,
         setup: setup,
+        station: station,
         value: value,
     }
 }

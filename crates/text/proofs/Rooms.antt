@@ -7,27 +7,24 @@ use native.Mathlib.Omega.{arith}
 use lib.Dec.{leb, ltb}
 use lib.ListN.{length}
 use borrow.Author.Tests.{leb-true}
+use Rattle.text.specs.declared.Act.{Act}
 use Rattle.text.specs.declared.Line.{Line}
 use Rattle.text.specs.declared.Line.the-variants as L
 use Rattle.text.specs.declared.parse.Name.{Name}
-use Rattle.text.specs.declared.parse.Name.the-variants.{Load, Start, Stop, Restart, Send, Show}
-use Rattle.text.specs.declared.parse.Name.the-variants.{Deliver, Check, Room, Unknown}
+use Rattle.text.specs.declared.parse.Name.the-variants.{Load, Timed, Send, Deliver, Check, Room, Unknown}
 use Rattle.text.specs.declared.parse.Pair.{Pair}
 use Rattle.text.specs.declared.parse.Pair.the-variants.{Both, Broken}
 use Rattle.text.specs.declared.number.Number.{Number}
 use Rattle.text.specs.declared.number.Number.the-variants.{Value, Invalid}
 use Rattle.text.specs.Reading.{wordIn, restOf, numberOf, isFrame, isLoad}
-use Rattle.text.specs.Calls.{nameOf, callAt, timedOf, sendOf, deliverOf, roomOf, timedIn, sendIn, deliverIn}
-use Rattle.text.specs.Calls.{checkIn, callOf, isComment, lineOf}
+use Rattle.text.specs.Calls.{nameOf, timedOf, sendOf, deliverOf, roomOf, timedIn, sendIn, deliverIn, checkIn}
+use Rattle.text.specs.Calls.{callOf, isComment, lineOf}
 
 -- the length that a line lends, 0 where it lends none
 abbrev lent : Line → ℕ
 lent L.Load = 0
-lent (L.Start clock entry) = 0
-lent (L.Stop clock entry) = 0
-lent (L.Restart clock entry) = 0
+lent (L.Timed act clock entry) = 0
 lent (L.Send clock entry start) = 0
-lent (L.Show clock entry) = 0
 lent (L.Deliver clock start) = 0
 lent (L.Check start) = 0
 lent (L.Room n) = n
@@ -38,23 +35,10 @@ either : (p : Bool) (x y : Line) → lent x ≤ 256 → lent y ≤ 256 → lent 
 either true x y h k = h
 either false x y h k = k
 
-call-lent : (name : Name) (clock entry : ℕ) → lent (callAt name clock entry) ≤ 256
-unfolding callAt
-call-lent Load clock entry = omega arith
-call-lent Start clock entry = omega arith
-call-lent Stop clock entry = omega arith
-call-lent Restart clock entry = omega arith
-call-lent Send clock entry = omega arith
-call-lent Show clock entry = omega arith
-call-lent Deliver clock entry = omega arith
-call-lent Check clock entry = omega arith
-call-lent Room clock entry = omega arith
-call-lent Unknown clock entry = omega arith
-
-timed-lent : (name : Name) (pair : Pair) → lent (timedOf name pair) ≤ 256
+timed-lent : (act : Act) (pair : Pair) → lent (timedOf act pair) ≤ 256
 unfolding timedOf
-timed-lent name (Both clock entry) = call-lent name clock entry
-timed-lent name Broken = omega arith
+timed-lent act (Both clock entry) = omega arith
+timed-lent act Broken = omega arith
 
 send-lent : (pair : Pair) (is : Bool) (start : ℕ) → lent (sendOf pair is start) ≤ 256
 unfolding sendOf
@@ -78,11 +62,8 @@ room-lent Invalid = omega arith
 name-lent : (name : Name) (s : List ℕ) → lent (callOf name s) ≤ 256
 unfolding callOf timedIn sendIn deliverIn checkIn
 name-lent Load s = either (isLoad s) L.Load L.Wrong (omega arith) (omega arith)
-name-lent Start s = timed-lent Start _
-name-lent Stop s = timed-lent Stop _
-name-lent Restart s = timed-lent Restart _
+name-lent (Timed act) s = timed-lent act _
 name-lent Send s = send-lent _ _ _
-name-lent Show s = timed-lent Show _
 name-lent Deliver s = deliver-lent _ _ _
 name-lent Check s = either (isFrame (restOf s)) _ L.Wrong (omega arith) (omega arith)
 name-lent Room s = room-lent (numberOf (restOf s))

@@ -5,32 +5,39 @@ use Prim.Native.Nat.{ℕ, _-_}
 use lib.Dec.{eqb, leb, ltb}
 use lib.ListN.{length, getD}
 use Rattle.frame.specs.Reading.{same}
+use Rattle.text.specs.declared.Act.{Act}
+use Rattle.text.specs.declared.Act.the-variants as A
 use Rattle.text.specs.declared.Line.{Line}
 use Rattle.text.specs.declared.Line.the-variants as L
 use Rattle.text.specs.declared.parse.Name.{Name}
-use Rattle.text.specs.declared.parse.Name.the-variants.{Load, Start, Stop, Restart, Send, Show}
-use Rattle.text.specs.declared.parse.Name.the-variants.{Deliver, Check, Room, Unknown}
+use Rattle.text.specs.declared.parse.Name.the-variants.{Load, Timed, Send, Deliver, Check, Room, Unknown}
 use Rattle.text.specs.declared.parse.Pair.{Pair}
 use Rattle.text.specs.declared.parse.Pair.the-variants.{Both, Broken}
 use Rattle.text.specs.declared.number.Number.{Number}
 use Rattle.text.specs.declared.number.Number.the-variants.{Value, Invalid}
 use Rattle.text.specs.Reading.{wordIn, restOf, numberOf, isHex, isFrame, isLoad}
 
--- the name that a word is, byte by byte: of a user's call on an entry, and of any call
-unfoldable pub userName : List ℕ → Name
-userName w =
-    cond (same w (115 ∷ 116 ∷ 97 ∷ 114 ∷ 116 ∷ [])) Start
-    (cond (same w (115 ∷ 116 ∷ 111 ∷ 112 ∷ [])) Stop
-    (cond (same w (114 ∷ 101 ∷ 115 ∷ 116 ∷ 97 ∷ 114 ∷ 116 ∷ [])) Restart
-    (cond (same w (115 ∷ 101 ∷ 110 ∷ 100 ∷ [])) Send
-    (cond (same w (115 ∷ 104 ∷ 111 ∷ 119 ∷ [])) Show Unknown))))
+-- the name that a word is, byte by byte: of what a station's user sets, of any call that CLOCK and ENTRY alone follow,
+-- and of any call
+unfoldable pub stationName : List ℕ → Name
+stationName w =
+    cond (same w (110 ∷ 111 ∷ 116 ∷ 114 ∷ 101 ∷ 97 ∷ 100 ∷ 121 ∷ [])) (Timed A.NotReady)
+    (cond (same w (114 ∷ 101 ∷ 97 ∷ 100 ∷ 121 ∷ [])) (Timed A.Ready) Unknown)
+
+unfoldable pub timedName : List ℕ → Name
+timedName w =
+    cond (same w (115 ∷ 116 ∷ 97 ∷ 114 ∷ 116 ∷ [])) (Timed A.Start)
+    (cond (same w (115 ∷ 116 ∷ 111 ∷ 112 ∷ [])) (Timed A.Stop)
+    (cond (same w (114 ∷ 101 ∷ 115 ∷ 116 ∷ 97 ∷ 114 ∷ 116 ∷ [])) (Timed A.Restart)
+    (cond (same w (115 ∷ 104 ∷ 111 ∷ 119 ∷ [])) (Timed A.Show) (stationName w))))
 
 unfoldable pub nameOf : List ℕ → Name
 nameOf w =
     cond (same w (108 ∷ 111 ∷ 97 ∷ 100 ∷ [])) Load
     (cond (same w (100 ∷ 101 ∷ 108 ∷ 105 ∷ 118 ∷ 101 ∷ 114 ∷ [])) Deliver
     (cond (same w (99 ∷ 104 ∷ 101 ∷ 99 ∷ 107 ∷ [])) Check
-    (cond (same w (114 ∷ 111 ∷ 111 ∷ 109 ∷ [])) Room (userName w))))
+    (cond (same w (114 ∷ 111 ∷ 111 ∷ 109 ∷ [])) Room
+    (cond (same w (115 ∷ 101 ∷ 110 ∷ 100 ∷ [])) Send (timedName w)))))
 
 -- CLOCK below 2^64 and ENTRY below 2^32
 unfoldable pub pairOf : Number → Number → Pair
@@ -38,22 +45,9 @@ pairOf (Value clock) (Value entry) = cond (ltb entry 4294967296) (Both clock ent
 pairOf (Value clock) Invalid = Broken
 pairOf Invalid entry = Broken
 
--- the call of a name that CLOCK and ENTRY alone follow
-unfoldable pub callAt : Name → ℕ → ℕ → Line
-callAt Start clock entry = L.Start clock entry
-callAt Stop clock entry = L.Stop clock entry
-callAt Restart clock entry = L.Restart clock entry
-callAt Show clock entry = L.Show clock entry
-callAt Load clock entry = L.Wrong
-callAt Send clock entry = L.Wrong
-callAt Deliver clock entry = L.Wrong
-callAt Check clock entry = L.Wrong
-callAt Room clock entry = L.Wrong
-callAt Unknown clock entry = L.Wrong
-
-unfoldable pub timedOf : Name → Pair → Line
-timedOf name (Both clock entry) = callAt name clock entry
-timedOf name Broken = L.Wrong
+unfoldable pub timedOf : Act → Pair → Line
+timedOf act (Both clock entry) = L.Timed act clock entry
+timedOf act Broken = L.Wrong
 
 unfoldable pub sendOf : Pair → Bool → ℕ → Line
 sendOf (Both clock entry) is start = cond is (L.Send clock entry start) L.Wrong
@@ -75,8 +69,8 @@ abbrev pub placeOf : List ℕ → List ℕ → ℕ
 placeOf s t = length s - length t
 
 -- CLOCK ENTRY
-unfoldable pub timedIn : Name → List ℕ → Line
-timedIn name r = timedOf name (pairOf (numberOf (wordIn r)) (numberOf (restOf r)))
+unfoldable pub timedIn : Act → List ℕ → Line
+timedIn act r = timedOf act (pairOf (numberOf (wordIn r)) (numberOf (restOf r)))
 
 -- CLOCK ENTRY HEX
 unfoldable pub sendIn : List ℕ → List ℕ → Line
@@ -94,11 +88,8 @@ checkIn s r = cond (isFrame r) (L.Check (placeOf s r)) L.Wrong
 
 unfoldable pub callOf : Name → List ℕ → Line
 callOf Load s = cond (isLoad s) L.Load L.Wrong
-callOf Start s = timedIn Start (restOf s)
-callOf Stop s = timedIn Stop (restOf s)
-callOf Restart s = timedIn Restart (restOf s)
+callOf (Timed act) s = timedIn act (restOf s)
 callOf Send s = sendIn s (restOf s)
-callOf Show s = timedIn Show (restOf s)
 callOf Deliver s = deliverIn s (restOf s)
 callOf Check s = checkIn s (restOf s)
 callOf Room s = roomOf (numberOf (restOf s))

@@ -14,19 +14,23 @@ pub enum Entry {
     At(u32),
 }
 
+// The calls that CLOCK and ENTRY alone follow.
+pub enum Act {
+    Start,
+    Stop,
+    Restart,
+    Show,
+    // The station's user sets 'not ready', and clears it.
+    NotReady,
+    Ready,
+}
+
 // What a line of a call list is. The bytes of a call stand as digits from `start` to the end of the line.
 pub enum Line {
     // Settings words.
     Load,
-    Start {
-        clock: u64,
-        entry: u32,
-    },
-    Stop {
-        clock: u64,
-        entry: u32,
-    },
-    Restart {
+    Timed {
+        act: Act,
         clock: u64,
         entry: u32,
     },
@@ -34,10 +38,6 @@ pub enum Line {
         clock: u64,
         entry: u32,
         start: usize,
-    },
-    Show {
-        clock: u64,
-        entry: u32,
     },
     Deliver {
         clock: u64,

@@ -3,8 +3,9 @@ ghost use mathlib.Core.Path.{_≡_};
 ghost use mathlib.Core.Bool.{cond};
 ghost use Prim.Native.Nat.{_≤_};
 ghost use lib.ListN.{length};
-ghost use Rattle.text.specs.Calls.{userName, nameOf, pairOf, callAt, timedOf, sendOf, deliverOf, roomOf};
+ghost use Rattle.text.specs.Calls.{stationName, timedName, nameOf, pairOf, timedOf, sendOf, deliverOf, roomOf};
 ghost use Rattle.text.specs.Calls.{timedIn, sendIn, deliverIn, checkIn, callOf, lineOf};
+use super::Act;
 use super::Line;
 use super::hex::at;
 use super::hex::is_frame;
@@ -19,11 +20,8 @@ use frame::read::same;
 // What the first word of a line names.
 pub(crate) enum Name {
     Load,
-    Start,
-    Stop,
-    Restart,
+    Timed(Act),
     Send,
-    Show,
     Deliver,
     Check,
     Room,
@@ -42,23 +40,32 @@ fn named(is: bool, name: Name, rest: Name) -> Name
     if is { name } else { rest }
 }
 
-// The name of a user's call on an entry that a word is.
-fn user_name(word: &[u8]) -> Name
-    ensures { λ r. ⌜ r ≡ userName (now (word .entry)) ⌝ }
+// The name of what a station's user sets that a word is.
+fn station_name(word: &[u8]) -> Name
+    ensures { λ r. ⌜ r ≡ stationName (now (word .entry)) ⌝ }
 {
-    let show = named(same(word, b"show"), Name::Show, Name::Unknown);
-    let send = named(same(word, b"send"), Name::Send, show);
-    let restart = named(same(word, b"restart"), Name::Restart, send);
-    let stop = named(same(word, b"stop"), Name::Stop, restart);
-    named(same(word, b"start"), Name::Start, stop)
+    let ready = named(same(word, b"ready"), Name::Timed(Act::Ready), Name::Unknown);
+    named(same(word, b"notready"), Name::Timed(Act::NotReady), ready)
+}
+
+// The name of a call that CLOCK and ENTRY alone follow that a word is.
+fn timed_name(word: &[u8]) -> Name
+    ensures { λ r. ⌜ r ≡ timedName (now (word .entry)) ⌝ }
+{
+    let station = station_name(word);
+    let show = named(same(word, b"show"), Name::Timed(Act::Show), station);
+    let restart = named(same(word, b"restart"), Name::Timed(Act::Restart), show);
+    let stop = named(same(word, b"stop"), Name::Timed(Act::Stop), restart);
+    named(same(word, b"start"), Name::Timed(Act::Start), stop)
 }
 
 // The name that a word is.
 fn name_of(word: &[u8]) -> Name
     ensures { λ r. ⌜ r ≡ nameOf (now (word .entry)) ⌝ }
 {
-    let user = user_name(word);
-    let room = named(same(word, b"room"), Name::Room, user);
+    let timed = timed_name(word);
+    let send = named(same(word, b"send"), Name::Send, timed);
+    let room = named(same(word, b"room"), Name::Room, send);
     let check = named(same(word, b"check"), Name::Check, room);
     let deliver = named(same(word, b"deliver"), Name::Deliver, check);
     named(same(word, b"load"), Name::Load, deliver)
@@ -85,29 +92,11 @@ fn pair_of(clock: Number, entry: Number) -> Pair
     }
 }
 
-// The call of a name that CLOCK and ENTRY alone follow.
-fn call_at(name: Name, clock: u64, entry: u32) -> Line
-    ensures { λ r. ⌜ r ≡ callAt name clock entry ⌝ }
-{
-    match name {
-        Name::Start => Line::Start { clock, entry },
-        Name::Stop => Line::Stop { clock, entry },
-        Name::Restart => Line::Restart { clock, entry },
-        Name::Show => Line::Show { clock, entry },
-        Name::Load => Line::Wrong,
-        Name::Send => Line::Wrong,
-        Name::Deliver => Line::Wrong,
-        Name::Check => Line::Wrong,
-        Name::Room => Line::Wrong,
-        Name::Unknown => Line::Wrong,
-    }
-}
-
-fn timed_of(name: Name, pair: Pair) -> Line
-    ensures { λ r. ⌜ r ≡ timedOf name pair ⌝ }
+fn timed_of(act: Act, pair: Pair) -> Line
+    ensures { λ r. ⌜ r ≡ timedOf act pair ⌝ }
 {
     match pair {
-        Pair::Both { clock, entry } => call_at(name, clock, entry),
+        Pair::Both { clock, entry } => Line::Timed { act, clock, entry },
         Pair::Broken => Line::Wrong,
     }
 }
@@ -158,10 +147,10 @@ fn room_of(number: Number) -> Line
     }
 }
 
-fn timed_in(name: Name, r: &[u8]) -> Line
-    ensures { λ x. ⌜ x ≡ timedIn name (now (r .entry)) ⌝ }
+fn timed_in(act: Act, r: &[u8]) -> Line
+    ensures { λ x. ⌜ x ≡ timedIn act (now (r .entry)) ⌝ }
 {
-    timed_of(name, pair_of(number_of(first(r)), number_of(rest(r))))
+    timed_of(act, pair_of(number_of(first(r)), number_of(rest(r))))
 }
 
 fn send_in(line: &[u8], r: &[u8]) -> Line
@@ -210,11 +199,8 @@ fn call_of(name: Name, line: &[u8]) -> Line
             }
             Line::Wrong
         }
-        Name::Start => timed_in(name, r),
-        Name::Stop => timed_in(name, r),
-        Name::Restart => timed_in(name, r),
+        Name::Timed(act) => timed_in(act, r),
         Name::Send => send_in(line, r),
-        Name::Show => timed_in(name, r),
         Name::Deliver => deliver_in(line, r),
         Name::Check => check_in(line, r),
         Name::Room => room_of(number_of(r)),

@@ -33,6 +33,7 @@ blank = record {
   since = 0;
   timestamps = record { sent = Never; accepted = Never };
   setup = record { pending = Nothing; measured = 0; offset = 0 };
+  station = record { notready = false };
   value = record { taken = false; bytes = [] };
 }
 

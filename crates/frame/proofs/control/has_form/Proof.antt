@@ -6,8 +6,15 @@ use Rattle.frame.proofs.control.has_form.Tie as tie
 returns : tie.Need-returns
 unfolding hasForm
 returns c =
-    let go = c .before .before .before .before .before .before .before .before .before in
-    rw (c .is-absent .ensures, go .is3 .ensures, go .before .is2 .ensures, go .before .before .is .ensures)
+    let may = c .before .before .before .before .before .before .before .before .before .before in
+    let go = may .before in
+    rw (
+      c .is-absent .ensures,
+      may .may-be-busy .ensures,
+      go .is3 .ensures,
+      go .before .is2 .ensures,
+      go .before .before .is .ensures,
+    )
 
 pub has-form-spec : {M : Type 1} → statement M
-has-form-spec = tie.close (tie.spec (λ c κs. tt) (λ c κs. tt) (λ c κs. tt) (λ c κs. tt) returns)
+has-form-spec = tie.close (tie.spec (λ c κs. tt) (λ c κs. tt) (λ c κs. tt) (λ c κs. tt) (λ c κs. tt) returns)

@@ -9,7 +9,7 @@ returns c =
     rw (
       c .stepped .ensures,
       c .before .left-by .ensures,
-      n .confirmed .ensures,
+      n .heard .ensures,
       n .before .ended .ensures,
       n .before .before .reply-answer .ensures,
     )

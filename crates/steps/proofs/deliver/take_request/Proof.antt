@@ -36,18 +36,20 @@ returns c =
 write-whole-requires : tie.Need-write-whole-requires
 write-whole-requires c κs =
     let f = c .before in
-    let i = f .before .before in
+    let b = f .before .before in
+    let i = b .before .before in
     let d = i .before .before in
     let s = d .before .before .before .before in
     let t = s .before .before .before in
     let a = t .args in
-    let b = a .body .now in
+    let x = a .body .now in
     let n = neither (d .is-dropped .result) (i .before .is .result) (i .if1 .left) in
-    let w = request-width (a .e) (a .f) b (rw (← s .request-answer .ensures) (sym (d .is-dropped .ensures) ∙ n .0)) in
-    let l : isBodyLength (length b) ≡ true = rw w (setup-length (a .e .settings) (a .f .command)) in (
+    let w = request-width (a .e) (a .f) x (rw (← s .request-answer .ensures) (sym (d .is-dropped .ensures) ∙ n .0)) in
+    let l : isBodyLength (length x) ≡ true = rw w (setup-length (a .e .settings) (a .f .command)) in (
       t .pre .0,
-      rw (f .reply-fields .ensures)
-          (reply-writable (a .e) (a .clock) (a .f) (f .before .is-ended .result) (length b) (t .pre .1)
+      rw (f .reply-fields .ensures, b .is-busy .ensures)
+          (reply-writable (a .e) (a .clock) (a .f) (b .before .is-done .result) (f .before .is-ended .result) (length x)
+          (t .pre .1)
           (sym (i .before .is .ensures) ∙ n .1) l),
     )
 
@@ -55,7 +57,8 @@ returns-2 : tie.Need-returns-2
 returns-2 c =
     let w = c .before .before .before in
     let f = w .before .before in
-    let i = f .before .before in
+    let b = f .before .before in
+    let i = b .before .before in
     let d = i .before .before in
     let l = d .before in
     let s = l .before .before .before in
@@ -66,6 +69,8 @@ returns-2 c =
     let q : o ≡ outcome r x (written (f .reply-fields .result) (a .body .now)) = rw (
       f .reply-fields .ensures,
       f .before .is-ended .ensures,
+      b .is-busy .ensures,
+      b .before .is-done .ensures,
       l .left-by .ensures,
       l .before .taken .ensures,
       l .before .before .ended-by .ensures,
@@ -89,6 +94,8 @@ take-request-spec =
     (λ c κs. search needs)
     (λ c κs. search needs)
     returns
+    (λ c κs. search needs)
+    (λ c κs. search needs)
     (λ c κs. search needs)
     (λ c κs. search needs)
     write-whole-requires

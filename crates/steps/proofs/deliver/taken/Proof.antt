@@ -11,4 +11,4 @@ taken-spec =
     (λ c κs. search needs)
     (λ c. rw (c .ended-by .ensures, ← c .before .before .is .ensures, c .before .if1 .taken))
     (λ c κs. search needs)
-    (λ c. rw (c .advanced .ensures, ← c .before .before .is .ensures, c .before .if1 .left)))
+    (λ c. rw (c .answered .ensures, ← c .before .before .is .ensures, c .before .if1 .left)))

@@ -22,11 +22,10 @@ returns-2 c =
 returns-3 : tie.Need-returns-3
 unfolding callOf
 returns-3 c =
-    let m = c .before in
+    let m = c .before .before in
     let r = m .before .before in
     let s = r .before .before .args .line .now in
-    let e = m .enum-told2 .given .1 in
-    c .timed-in .ensures ∙ ap₂ timedIn e (r .rest .ensures .0) ∙ ap (λ (n : Name). callOf n s) (sym e)
+    c .timed-in .ensures ∙ ap (timedIn _) (r .rest .ensures .0) ∙ ap (λ (n : Name). callOf n s) (sym (m .name .given .1))
 
 returns-4 : tie.Need-returns-4
 unfolding callOf
@@ -34,8 +33,9 @@ returns-4 c =
     let m = c .before in
     let r = m .before .before in
     let s = r .before .before .args .line .now in
-    let e = m .enum-told3 .given .1 in
-    c .timed-in2 .ensures ∙ ap₂ timedIn e (r .rest .ensures .0) ∙ ap (λ (n : Name). callOf n s) (sym e)
+    c .send-in .ensures
+    ∙ ap (sendIn s) (r .rest .ensures .0)
+    ∙ ap (λ (n : Name). callOf n s) (sym (m .enum-told2 .given .1))
 
 returns-5 : tie.Need-returns-5
 unfolding callOf
@@ -43,8 +43,9 @@ returns-5 c =
     let m = c .before in
     let r = m .before .before in
     let s = r .before .before .args .line .now in
-    let e = m .enum-told4 .given .1 in
-    c .timed-in3 .ensures ∙ ap₂ timedIn e (r .rest .ensures .0) ∙ ap (λ (n : Name). callOf n s) (sym e)
+    c .deliver-in .ensures
+    ∙ ap (deliverIn s) (r .rest .ensures .0)
+    ∙ ap (λ (n : Name). callOf n s) (sym (m .enum-told3 .given .1))
 
 returns-6 : tie.Need-returns-6
 unfolding callOf
@@ -52,52 +53,23 @@ returns-6 c =
     let m = c .before in
     let r = m .before .before in
     let s = r .before .before .args .line .now in
-    c .send-in .ensures
-    ∙ ap (sendIn s) (r .rest .ensures .0)
-    ∙ ap (λ (n : Name). callOf n s) (sym (m .enum-told5 .given .1))
+    c .check-in .ensures
+    ∙ ap (checkIn s) (r .rest .ensures .0)
+    ∙ ap (λ (n : Name). callOf n s) (sym (m .enum-told4 .given .1))
 
 returns-7 : tie.Need-returns-7
 unfolding callOf
 returns-7 c =
-    let m = c .before in
-    let r = m .before .before in
-    let s = r .before .before .args .line .now in
-    let e = m .enum-told6 .given .1 in
-    c .timed-in4 .ensures ∙ ap₂ timedIn e (r .rest .ensures .0) ∙ ap (λ (n : Name). callOf n s) (sym e)
-
-returns-8 : tie.Need-returns-8
-unfolding callOf
-returns-8 c =
-    let m = c .before in
-    let r = m .before .before in
-    let s = r .before .before .args .line .now in
-    c .deliver-in .ensures
-    ∙ ap (deliverIn s) (r .rest .ensures .0)
-    ∙ ap (λ (n : Name). callOf n s) (sym (m .enum-told7 .given .1))
-
-returns-9 : tie.Need-returns-9
-unfolding callOf
-returns-9 c =
-    let m = c .before in
-    let r = m .before .before in
-    let s = r .before .before .args .line .now in
-    c .check-in .ensures
-    ∙ ap (checkIn s) (r .rest .ensures .0)
-    ∙ ap (λ (n : Name). callOf n s) (sym (m .enum-told8 .given .1))
-
-returns-10 : tie.Need-returns-10
-unfolding callOf
-returns-10 c =
     let m = c .before .before in
     let r = m .before .before in
     let s = r .before .before .args .line .now in
     c .room-of .ensures
     ∙ ap roomOf (c .before .number-of .ensures ∙ ap numberOf (r .rest .ensures .0))
-    ∙ ap (λ (n : Name). callOf n s) (sym (m .enum-told9 .given .1))
+    ∙ ap (λ (n : Name). callOf n s) (sym (m .enum-told5 .given .1))
 
-returns-11 : tie.Need-returns-11
+returns-8 : tie.Need-returns-8
 unfolding callOf
-returns-11 c = rw (c .enum-told10 .given .1)
+returns-8 c = rw (c .enum-told6 .given .1)
 
 pub call-of-spec : {M : Type 1} → statement M
 call-of-spec =
@@ -117,12 +89,6 @@ call-of-spec =
     (λ c κs. search needs)
     (λ c. search needs)
     (λ c κs. search needs)
-    (λ c. search needs)
-    (λ c κs. search needs)
-    (λ c. search needs)
-    (λ c κs. search needs)
-    (λ c. search needs)
-    (λ c κs. search needs)
     (λ c κs. search needs)
     (λ c. search needs)
     returns-2
@@ -131,7 +97,4 @@ call-of-spec =
     returns-5
     returns-6
     returns-7
-    returns-8
-    returns-9
-    returns-10
-    returns-11)
+    returns-8)

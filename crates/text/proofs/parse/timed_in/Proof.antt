@@ -13,7 +13,7 @@ returns c =
     let r = p .before .before in
     let f = r .before .before in
     c .timed-of .ensures
-    ∙ ap (timedOf (f .before .before .args .name)) (p .pair-of .ensures
+    ∙ ap (timedOf (f .before .before .args .act)) (p .pair-of .ensures
     ∙ ap₂ pairOf (r .before .number-of .ensures ∙ ap numberOf (f .first .ensures))
     (p .before .number-of2 .ensures ∙ ap numberOf (r .rest .ensures .0)))
 

@@ -6,7 +6,7 @@ use Rattle.text.proofs.parse.timed_of.Tie as tie
 
 returns : tie.Need-returns
 unfolding timedOf
-returns c = rw (c .before .before .pair .given .1) (c .call-at .ensures)
+returns c = rw (c .before .pair .given .1)
 
 returns-2 : tie.Need-returns-2
 unfolding timedOf
@@ -16,7 +16,6 @@ pub timed-of-spec : {M : Type 1} → statement M
 timed-of-spec = tie.close
     (tie.spec
     (λ c. search needs)
-    (λ c κs. search needs)
     (λ c. search needs)
     returns
     returns-2)
