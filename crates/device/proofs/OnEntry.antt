@@ -16,6 +16,7 @@ use Rattle.endpoint.specs.Answers.{isDone}
 use Rattle.endpoint.specs.Table.{isState}
 use Rattle.endpoint.specs.Time.{afterTick}
 use Rattle.endpoint.specs.Updates.{withNotReady}
+use Rattle.steps.proofs.Dispatch.{cond-true, cond-false}
 use Rattle.steps.proofs.Keeps.{bcase}
 use Rattle.steps.specs.declared.Stepped.{Stepped}
 use Rattle.steps.specs.declared.Shown.{Shown}
@@ -29,7 +30,7 @@ use Rattle.device.specs.declared.Called.{Called}
 use Rattle.device.specs.Tables.{endpointAt}
 use Rattle.device.specs.Clock.{isReading, clockStep}
 use Rattle.device.specs.Calls.{Result, admit, refusedOf, unlessRefused, placed, actedOf, beforeEntry, onEntry}
-use Rattle.device.specs.Calls.{isShort, beforeShow, shownIn, showIn, calledOf, stepCalled, CallSays}
+use Rattle.device.specs.Calls.{isShort, beforeShow, shownIn, showIn, calledOf, stepCalled, settledOf, CallSays}
 
 -- a call that goes on was lent enough room
 pub roomy : (last : Timestamp) (t : ℕ) (short : Bool) (a : Answer) → isDone (admit last t short a) ≡ true
@@ -85,6 +86,18 @@ acted-plain act d t n short b step called q h w s r =
       device = calledOf (actedOf o t n d) .device;
     })
     ∙ ap calledOf (sym (goes-on t n d (actedOf o t n d) (beforeEntry d t short n) b q h))
+
+-- whether it is refused before that or not
+pub settled-plain : (act : Endpoint → Outcome) (d : Device) (t n : ℕ) (b : Answer) (step : Stepped) (called : Called)
+    → b ≡ beforeEntry d t false n
+    → act (endpointAt (d .endpoints) n) .writes ≡ nothing
+    → step ≡ plainStep (act (endpointAt (d .endpoints) n))
+    → called ≡ settledOf b step t n d
+    → called ≡ calledOf (onEntry act d t false n)
+settled-plain act d t n b step called q w s r =
+    bcase (isDone b)
+    (λ h. acted-plain act d t n false b step called q h w s (r ∙ cond-true (isDone b) _ _ h))
+    (λ h. refused-plain t n d _ (beforeEntry d t false n) b q called h (r ∙ cond-false (isDone b) _ _ h))
 
 -- one that is lent an output
 pub acted-says : (act : Endpoint → Outcome) (d : Device) (t n : ℕ) (out out′ : List ℕ) (b : Answer) (step : Stepped)

@@ -152,6 +152,10 @@ abbrev pub stepCalled : Stepped → ℕ → ℕ → Device → Called
 stepCalled step t n d =
     called (step .answer) (At n) (step .count) false (placed n (step .endpoint) (clockStep t d))
 
+-- refused before that step, or the step
+abbrev pub settledOf : Answer → Stepped → ℕ → ℕ → Device → Called
+settledOf before step t n d = cond (isDone before) (stepCalled step t n d) (calledOf (refusedOf before t n d))
+
 -- a lent output: the written bytes stand over its front, the rest stays
 pub record CallSays (r : Result) (out out′ : List ℕ) (c : Called) : Type 0 where
   pub told : c ≡ calledOf r

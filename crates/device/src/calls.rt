@@ -2,7 +2,7 @@
 ghost use mathlib.Core.Path.{_≡_};
 ghost use lib.ListN.{length};
 ghost use Rattle.device.specs.Calls.{admit, admitEntry, timely, refusedEntry, refusedOf, startIn, sendIn, stopIn};
-ghost use Rattle.device.specs.Calls.{restartIn, setNotReadyIn, showIn, calledOf, stepCalled, CallSays};
+ghost use Rattle.device.specs.Calls.{restartIn, setNotReadyIn, showIn, calledOf, stepCalled, settledOf, CallSays};
 use super::Called;
 use super::Device;
 use super::Entry;
@@ -117,6 +117,16 @@ pub(crate) fn acted(step: Stepped, clock: u64, n: u32, device: Device) -> Called
     }
 }
 
+// A call that is lent no output, and so writes nothing: refused before the connection's own step, or that step.
+fn settled(before: Answer, step: Stepped, clock: u64, n: u32, device: Device) -> Called
+    ensures { λ r. ⌜ r ≡ settledOf before step clock n device ⌝ }
+{
+    if is_done(before) {
+        return acted(step, clock, n, device);
+    }
+    refused(before, clock, n, device)
+}
+
 // A master's, in Close.
 pub fn start(device: Device, clock: u64, n: u32) -> Called
     ensures { λ r. ⌜ r ≡ calledOf (startIn device clock n) ⌝ }
@@ -125,11 +135,8 @@ pub fn start(device: Device, clock: u64, n: u32) -> Called
     let endpoints = device.endpoints;
     let e = endpoint_at(endpoints, n);
     let before = before_entry(last, device.count, n, e, clock, false);
-    if !is_done(before) {
-        return refused(before, clock, n, device);
-    }
     let step = steps::lifecycle::start(e, clock);
-    acted(step, clock, n, device)
+    settled(before, step, clock, n, device)
 }
 
 // The next setup request, whatever value is lent; in Refresh the value.
@@ -172,11 +179,8 @@ pub fn restart(device: Device, clock: u64, n: u32) -> Called
     let endpoints = device.endpoints;
     let e = endpoint_at(endpoints, n);
     let before = before_entry(last, device.count, n, e, clock, false);
-    if !is_done(before) {
-        return refused(before, clock, n, device);
-    }
     let step = steps::lifecycle::restart(e);
-    acted(step, clock, n, device)
+    settled(before, step, clock, n, device)
 }
 
 // A station's user sets 'not ready', or clears it: a slave's, in any state.
@@ -187,11 +191,8 @@ pub fn set_not_ready(device: Device, clock: u64, n: u32, notready: bool) -> Call
     let endpoints = device.endpoints;
     let e = endpoint_at(endpoints, n);
     let before = before_entry(last, device.count, n, e, clock, false);
-    if !is_done(before) {
-        return refused(before, clock, n, device);
-    }
     let step = steps::lifecycle::set_not_ready(e, notready);
-    acted(step, clock, n, device)
+    settled(before, step, clock, n, device)
 }
 
 // The last value accepted in this Refresh, or fail-safe: as the clock step left the connection.

@@ -10,7 +10,7 @@ use Rattle.frame.specs.declared.Command.the-variants as K
 use Rattle.frame.specs.Control.{controlOf, hasForm}
 use Rattle.frame.specs.Reading.{hasCheckWord, fieldsIn, readingOfCopies, readingOf}
 use Rattle.frame.specs.Writing.{headBytes, withCheckWord, twice, subBytes, frameBytes, isWritable}
-use Rattle.steps.specs.Frames.{bytesOf, plainFields, setupData}
+use Rattle.steps.specs.Frames.{bytesOf, sentFields, ackFields, setupData}
 use Rattle.settings.specs.Lists.{connectionAt, settingsAt, isConnectionAt, isNewAt, areConnections, isList}
 use Rattle.device.specs.Tables.{endpointAt, findFrom, entryOf, freshUpTo, tickedAll}
 use Rattle.steps.specs.Steps.{start, setNotReady}
@@ -41,8 +41,8 @@ data-of k = setupData (settingsAt (list 0x30000021) 0) k
 answered : Bool → ℕ → Command → ℕ → List Event
 answered busy t k baseline =
     at-master t (send 0 [])
-    ∷ at-slave (5001 + t) (deliver (frameBytes (plainFields k false false false false cid t baseline) (data-of k)))
-    ∷ at-master (2 + t) (deliver (frameBytes (plainFields k true busy false true cid t 0) (data-of k))) ∷ []
+    ∷ at-slave (5001 + t) (deliver (frameBytes (sentFields k false cid t baseline) (data-of k)))
+    ∷ at-master (2 + t) (deliver (frameBytes (ackFields k busy false cid t) (data-of k))) ∷ []
 
 exchange : ℕ → Command → ℕ → List Event
 exchange t k baseline = answered false t k baseline
@@ -59,7 +59,7 @@ line =
     ++ (exchange 40 K.RefreshReady 0
     ++ (exchange 50 K.RefreshGo 8
     ++ (at-master 60 (send 0 (1 ∷ 2 ∷ 3 ∷ 4 ∷ []))
-    ∷ at-slave 5061 (deliver (frameBytes (plainFields K.Refresh false false false false cid 60 0) (1 ∷ 2 ∷ 3 ∷ 4 ∷ [])))
+    ∷ at-slave 5061 (deliver (frameBytes (sentFields K.Refresh false cid 60 0) (1 ∷ 2 ∷ 3 ∷ 4 ∷ [])))
     -- another entry, bytes that are no frame, and a cycle in which nothing arrived
     ∷ at-slave 5062 (show 1)
     ∷ at-slave 5063 (deliver (1 ∷ 2 ∷ 3 ∷ []))
@@ -68,7 +68,7 @@ line =
     ∷ at-slave 5071 (send 0 (5 ∷ 6 ∷ 7 ∷ 8 ∷ []))
     -- a reading before the last: number 1
     ∷ at-slave 5000 (show 0)
-    ∷ at-master 72 (deliver (frameBytes (plainFields K.Refresh false false false true cid 72 0) (5 ∷ 6 ∷ 7 ∷ 8 ∷ [])))
+    ∷ at-master 72 (deliver (frameBytes (sentFields K.Refresh true cid 72 0) (5 ∷ 6 ∷ 7 ∷ 8 ∷ [])))
     ∷ at-master 80 (show 0) ∷ [])))))))))
 
 run : Run

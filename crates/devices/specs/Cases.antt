@@ -21,7 +21,7 @@ use Rattle.endpoint.specs.declared.Endpoint.{Endpoint}
 use Rattle.endpoint.specs.Answers.{numberOf}
 use Rattle.endpoint.specs.Table.{stateNumber}
 use Rattle.endpoint.specs.Updates.{inState, timedFrom, withSetup, withPending, withNotReady}
-use Rattle.steps.specs.Frames.{Written, nothing, written, setupData, plainFields, refreshFields, replyFields}
+use Rattle.steps.specs.Frames.{Written, nothing, written, setupData, sentFields, ackFields, refreshFields, replyFields}
 use Rattle.steps.specs.Calls.{Outcome, freshOf, sendOf}
 use Rattle.steps.specs.Deliveries.{deliverOf}
 use Rattle.settings.specs.Words.{settingsOf}
@@ -58,18 +58,17 @@ cid = 0x01020103
 
 -- an S-Connect request
 abbrev connecting : Fields
-connecting = plainFields K.Connect false false false false cid 10 0
+connecting = sentFields K.Connect false cid 10 0
 
 -- Readying: S-RefreshGO, sent at 1,040 with OBL 10, taken by the slave whose s2 is 6,010
 abbrev ready : Endpoint
 ready =
     deliverOf (endpointIn slaveSettings RefreshPending 6010 6010 0) 6050
-    (plainFields K.RefreshGo false false false false cid 1040 10) (0 ∷ 0 ∷ 0 ∷ 0 ∷ []) .endpoint
+    (sentFields K.RefreshGo false cid 1040 10) (0 ∷ 0 ∷ 0 ∷ 0 ∷ []) .endpoint
 
 -- an S-Refresh with this timestamp from the other end: what it comes to, the number it gets, and the endpoint it leaves
 abbrev refreshed : Endpoint → ℕ → ℕ → Outcome
-refreshed e t stamp =
-    deliverOf e t (plainFields K.Refresh false false false (not (e .settings .slave)) cid stamp 0) word
+refreshed e t stamp = deliverOf e t (sentFields K.Refresh (not (e .settings .slave)) cid stamp 0) word
 
 abbrev refreshAt : Endpoint → ℕ → ℕ → ℕ
 refreshAt e t stamp = numberOf (refreshed e t stamp .answer)
@@ -104,7 +103,7 @@ controlIn (written f body) = controlOf f
 abbrev asked : State → Command → List ℕ → Outcome
 asked state k body =
     deliverOf (withNotReady true (endpointIn slaveSettings state 6000 5 0)) 6040
-    (plainFields k false false false false cid 10 0) body
+    (sentFields k false cid 10 0) body
 
 -- the same with the data that it compares
 abbrev askedRight : State → Command → Outcome
@@ -114,14 +113,14 @@ askedRight state k = asked state k (setupData slaveSettings k)
 abbrev busyReply : Bool → List ℕ → Outcome
 busyReply error body =
     deliverOf (withPending (Asked 1000) (endpointIn masterSettings ParamVerify 1000 5 0)) 1030
-    (plainFields K.RefreshReady true true error true cid 1000 0) body
+    (ackFields K.RefreshReady true error cid 1000) body
 
 abbrev dueAgain : Endpoint
 dueAgain = busyReply false (0 ∷ 0 ∷ 0 ∷ 0 ∷ []) .endpoint
 
 -- the frame check of a command's reply with Busy 1
 abbrev busyForm : Command → ℕ
-busyForm k = Reader.numberOf (Reader.readingOf (frameBytes (plainFields k true true false true cid 10 0) word))
+busyForm k = Reader.numberOf (Reader.readingOf (frameBytes (ackFields k true false cid 10) word))
 
 pub record Case : Type 0 where
   pub given : ℕ

@@ -8,7 +8,7 @@ use lib.Dec.{lit≤}
 use Rattle.frame.specs.declared.Command.{Command}
 use Rattle.frame.specs.declared.Command.the-variants as K
 use Rattle.endpoint.specs.declared.Settings.{Settings}
-use Rattle.steps.specs.Frames.{plainFields, setupData}
+use Rattle.steps.specs.Frames.{sentFields, ackFields, setupData}
 use Rattle.steps.specs.Steps.{start, setNotReady, Call, act, send, deliver, show}
 use Rattle.link.specs.Runs.{Clocks, Event, sameFields, lastFrom, lastOf, shown, Link}
 use Rattle.link.specs.Fresh.{Paired, runOf}
@@ -40,8 +40,8 @@ answered : Bool → ℕ → Command → ℕ → List Event
 answered busy t k baseline =
     at-master t (send [])
     ∷ at-slave (5001 + t)
-    (deliver (plainFields k false false false false 0x01020103 t baseline) (setupData (settings false) k))
-    ∷ at-master (2 + t) (deliver (plainFields k true busy false true 0x01020103 t 0) (setupData (settings false) k)) ∷ []
+    (deliver (sentFields k false 0x01020103 t baseline) (setupData (settings false) k))
+    ∷ at-master (2 + t) (deliver (ackFields k busy false 0x01020103 t) (setupData (settings false) k)) ∷ []
 
 exchange : ℕ → Command → ℕ → List Event
 exchange t k baseline = answered false t k baseline
@@ -64,10 +64,10 @@ line =
     ++ (exchange 40 K.RefreshReady 0
     ++ (exchange 50 K.RefreshGo 8
     ++ (at-master 60 (send (1 ∷ 2 ∷ 3 ∷ 4 ∷ []))
-    ∷ at-slave 5061 (deliver (plainFields K.Refresh false false false false 0x01020103 60 0) (1 ∷ 2 ∷ 3 ∷ 4 ∷ []))
+    ∷ at-slave 5061 (deliver (sentFields K.Refresh false 0x01020103 60 0) (1 ∷ 2 ∷ 3 ∷ 4 ∷ []))
     ∷ at-slave 5070 show
     ∷ at-slave 5071 (send (5 ∷ 6 ∷ 7 ∷ 8 ∷ []))
-    ∷ at-master 72 (deliver (plainFields K.Refresh false false false true 0x01020103 72 0) (5 ∷ 6 ∷ 7 ∷ 8 ∷ []))
+    ∷ at-master 72 (deliver (sentFields K.Refresh true 0x01020103 72 0) (5 ∷ 6 ∷ 7 ∷ 8 ∷ []))
     ∷ at-master 80 show ∷ [])))))))))
 
 run : Link

@@ -17,7 +17,7 @@ use Rattle.endpoint.specs.declared.Answer.{Answer}
 use Rattle.endpoint.specs.declared.Answer.the-variants.{Ended}
 use Rattle.endpoint.specs.Answers.{isDone}
 use Rattle.endpoint.specs.Time.{lastReading, isExpired, endedOf}
-use Rattle.steps.specs.Frames.{Written, nothing, written, plainFields}
+use Rattle.steps.specs.Frames.{Written, nothing, written, sentFields}
 use Rattle.steps.specs.Calls.{Outcome, outcome, freshOf, isFailSafe, shownOf}
 use Rattle.steps.specs.Steps.{Call, act, send, deliver, show, stepOf}
 
@@ -59,7 +59,7 @@ abbrev pub noEntry : Entry
 noEntry = record {
   slave = false;
   moment = 0;
-  fields = plainFields K.Connect false false false false 0 0 0;
+  fields = sentFields K.Connect false 0 0 0;
   body = [];
   lent = none;
 }

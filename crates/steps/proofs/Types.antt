@@ -17,7 +17,7 @@ use Rattle.endpoint.specs.declared.State.the-variants.{Refresh}
 use Rattle.endpoint.specs.declared.Endpoint.{Endpoint}
 use Rattle.endpoint.specs.Answers.{firstOf, isDropped}
 use Rattle.endpoint.specs.Table.{isState, requestOf}
-use Rattle.steps.specs.Frames.{setupData, plainFields, baselineOf}
+use Rattle.steps.specs.Frames.{setupData, sentFields, baselineOf}
 use Rattle.steps.specs.Calls.{Outcome, sendFaults, sendOf, stopFaults, stopOf}
 use Rattle.steps.specs.Deliveries.{requestFaults, repliedOf, deliverOf}
 use Rattle.steps.specs.Laws.{SettingsFit, IsTyped}
@@ -43,10 +43,10 @@ data-bytes s K.RefreshReady h = word 0 [] (lit< tt) none
 data-bytes s K.RefreshGo h = word 0 [] (lit< tt) none
 data-bytes s K.Refresh h = word 0 [] (lit< tt) none
 
-plain-typed : (k : Command) (ack busy error application : Bool) (connection timestamp baseline : ℕ) (body : List ℕ)
+sent-typed : (k : Command) (application : Bool) (connection timestamp baseline : ℕ) (body : List ℕ)
     → connection < 2 ^ 32 → baseline < 65536 → Bytes body
-    → Typed (plainFields k ack busy error application connection timestamp baseline) body
-plain-typed k ack busy error application connection timestamp baseline body c b r =
+    → Typed (sentFields k application connection timestamp baseline) body
+sent-typed k application connection timestamp baseline body c b r =
     record { connection = c; baseline = b; session = tt; bytes = r }
 
 -- OBL has 16 bits
@@ -62,8 +62,8 @@ module _ (e : Endpoint) (t : ℕ) where
   send-typed value h r =
       bcase (isDropped (firstOf (sendFaults e t (length value)))) (λ d. rw d tt)
       (λ d. rw d (bcase (isState (e .state) Refresh)
-      (λ k. rw k (plain-typed _ _ _ _ _ _ _ _ value (h .connection) (lit< tt) r))
-      (λ k. rw k (plain-typed _ _ _ _ _ _ _ _ (setupData (e .settings) (requestOf (e .state))) (h .connection)
+      (λ k. rw k (sent-typed _ _ _ _ _ value (h .connection) (lit< tt) r))
+      (λ k. rw k (sent-typed _ _ _ _ _ (setupData (e .settings) (requestOf (e .state))) (h .connection)
       (baseline-fits (requestOf (e .state)) t (e .setup .measured))
       (data-bytes (e .settings) (requestOf (e .state)) h)))))
 
@@ -73,7 +73,7 @@ module _ (e : Endpoint) (t : ℕ) where
       (λ d. rw d (bcase (e .settings .slave)
       (λ m. subst IsTyped (sym (cond-true (e .settings .slave) _ _ m)) tt)
       (λ m. subst IsTyped (sym (cond-false (e .settings .slave) _ _ m))
-      (plain-typed _ _ _ _ _ _ _ _ (setupData (e .settings) K.Disconnect) (h .connection) (lit< tt)
+      (sent-typed _ _ _ _ _ (setupData (e .settings) K.Disconnect) (h .connection) (lit< tt)
       (data-bytes (e .settings) K.Disconnect h)))))
 
   replied-typed : (f : Fields) (body : List ℕ) → SettingsFit (e .settings) → Bytes body
@@ -81,7 +81,7 @@ module _ (e : Endpoint) (t : ℕ) where
   replied-typed f body h r =
       let a = firstOf (requestFaults e f body) in
       bcase (isDropped a || is (f .command) K.Disconnect) (λ d. rw d tt)
-      (λ d. rw d (plain-typed _ _ _ _ _ _ _ _ body (h .connection) (lit< tt) r))
+      (λ d. rw d (record { connection = h .connection; baseline = lit< tt; session = tt; bytes = r }))
 
   pub deliver-typed : (f : Fields) (body : List ℕ) → SettingsFit (e .settings) → Bytes body
       → IsTyped (deliverOf e t f body .writes)

@@ -22,7 +22,7 @@ use Rattle.endpoint.specs.declared.State.the-variants.{RefreshPending, Refresh,
 use Rattle.endpoint.specs.declared.Endpoint.{Endpoint}
 use Rattle.endpoint.specs.Table.{requestOf}
 use Rattle.endpoint.specs.Time.{span}
-use Rattle.steps.specs.Frames.{setupData, widthOf, sendWidth, showWidth, timeOf, plainFields, baselineOf}
+use Rattle.steps.specs.Frames.{setupData, widthOf, sendWidth, showWidth, timeOf, sentFields, ackFields, baselineOf}
 use Rattle.steps.specs.Frames.{requestFields, refreshFields, disconnectFields, replyFields}
 use Rattle.steps.specs.Deliveries.{isBusy}
 use Rattle.steps.specs.Says.{WholeSays}
@@ -61,9 +61,7 @@ value-length words = by-test (leb 1 words && leb words 25) refl
 
 -- ---- the form of each frame
 request-form : (s : State) (connection timestamp t measured : ℕ)
-    → hasForm
-    (plainFields (requestOf s) false false false false connection timestamp (baselineOf (requestOf s) t measured))
-    ≡ true
+    → hasForm (sentFields (requestOf s) false connection timestamp (baselineOf (requestOf s) t measured)) ≡ true
 unfolding hasForm
 request-form Close connection timestamp t measured = refl
 request-form Starting connection timestamp t measured = refl
@@ -77,7 +75,7 @@ request-form Terminate connection timestamp t measured = refl
 -- a reply: to any command but S-Refresh and S-Disconnect
 reply-form : (k : Command) (busy error : Bool) (connection timestamp : ℕ) → is k K.Refresh ≡ false
     → is k K.Disconnect ≡ false → (not busy || mayBeBusy k) ≡ true
-    → hasForm (plainFields k true busy error true connection timestamp 0) ≡ true
+    → hasForm (ackFields k busy error connection timestamp) ≡ true
 unfolding hasForm
 reply-form k busy error connection timestamp r d b = rw (r, d, b, or-true (not error))
 

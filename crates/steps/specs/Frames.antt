@@ -57,19 +57,34 @@ showWidth s = widthOf (cond (s .slave) (s .masterwords) (s .slavewords))
 abbrev pub timeOf : Endpoint → ℕ → ℕ
 timeOf e t = masterTime (e .settings .slave) (e .setup .offset) t
 
--- fields with nothing of what 01 does not use
-abbrev pub plainFields : Command → Bool → Bool → Bool → Bool → ℕ → ℕ → ℕ → Fields
-plainFields k ack busy error application connection timestamp baseline = record {
+-- a frame that is no reply: a request, S-Refresh or S-Disconnect; Application tells the direction
+abbrev pub sentFields : Command → Bool → ℕ → ℕ → ℕ → Fields
+sentFields k application connection timestamp baseline = record {
   command = k;
-  ack = ack;
-  busy = busy;
-  error = error;
+  ack = false;
+  busy = false;
+  error = false;
   sequence = false;
   application = application;
   session = Absent;
   connection = connection;
   timestamp = timestamp;
   baseline = baseline;
+}
+
+-- a slave's reply
+abbrev pub ackFields : Command → Bool → Bool → ℕ → ℕ → Fields
+ackFields k busy error connection timestamp = record {
+  command = k;
+  ack = true;
+  busy = busy;
+  error = error;
+  sequence = false;
+  application = true;
+  session = Absent;
+  connection = connection;
+  timestamp = timestamp;
+  baseline = 0;
 }
 
 -- OBL of the request k: m3 − m2 in S-RefreshGO, 16 bits of it
@@ -79,18 +94,17 @@ baselineOf k t measured = cond (is k K.RefreshGo) ((t - measured) % 65536) 0
 -- a master's setup request
 abbrev pub requestFields : Endpoint → ℕ → Fields
 requestFields e t =
-    plainFields (requestOf (e .state)) false false false false (e .settings .connection) (timeOf e t)
+    sentFields (requestOf (e .state)) false (e .settings .connection) (timeOf e t)
     (baselineOf (requestOf (e .state)) t (e .setup .measured))
 
--- S-Refresh; Application tells the direction
+-- S-Refresh, of either end
 abbrev pub refreshFields : Endpoint → ℕ → Fields
-refreshFields e t = plainFields K.Refresh false false false (e .settings .slave) (e .settings .connection) (timeOf e t) 0
+refreshFields e t = sentFields K.Refresh (e .settings .slave) (e .settings .connection) (timeOf e t) 0
 
 -- a master's S-Disconnect
 abbrev pub disconnectFields : Endpoint → ℕ → Fields
-disconnectFields e t = plainFields K.Disconnect false false false false (e .settings .connection) (timeOf e t) 0
+disconnectFields e t = sentFields K.Disconnect false (e .settings .connection) (timeOf e t) 0
 
--- a slave's reply: Cmd, timestamp (of 48 bits) and S-Data of the request
+-- the reply to a request: its Cmd and timestamp (of 48 bits)
 abbrev pub replyFields : Endpoint → Fields → Bool → Bool → Fields
-replyFields e f busy error =
-    plainFields (f .command) true busy error true (e .settings .connection) (f .timestamp % span) 0
+replyFields e f busy error = ackFields (f .command) busy error (e .settings .connection) (f .timestamp % span)

@@ -4,7 +4,7 @@ ghost use mathlib.Core.List.{_++_};
 ghost use Prim.Native.Nat.{_≤_};
 ghost use lib.ListN.{length};
 ghost use Rattle.frame.specs.Words.{wordBytes};
-ghost use Rattle.steps.specs.Frames.{setupData, widthOf, sendWidth, showWidth, timeOf, plainFields, baselineOf};
+ghost use Rattle.steps.specs.Frames.{setupData, widthOf, sendWidth, showWidth, timeOf, sentFields, baselineOf};
 ghost use Rattle.steps.specs.Frames.{requestFields, refreshFields, disconnectFields, replyFields};
 ghost use Rattle.steps.specs.Says.{DataSays, WholeSays};
 ghost use Rattle.frame.specs.Writing.{isWritable};
@@ -123,23 +123,21 @@ pub(crate) fn stamp_of(e: Endpoint, clock: u64) -> u64
     timestamp(e.settings.slave, e.setup.offset, clock)
 }
 
-fn plain_fields(
+// A frame that is no reply; application tells the direction.
+fn sent_fields(
     command: Command,
-    ack: bool,
-    busy: bool,
-    error: bool,
     application: bool,
     connection: u32,
     timestamp: u64,
     baseline: u16,
 ) -> Fields
-    ensures { λ r. ⌜ r ≡ plainFields command ack busy error application connection timestamp baseline ⌝ }
+    ensures { λ r. ⌜ r ≡ sentFields command application connection timestamp baseline ⌝ }
 {
     Fields {
         command: command,
-        ack: ack,
-        busy: busy,
-        error: error,
+        ack: false,
+        busy: false,
+        error: false,
         sequence: false,
         application: application,
         session: Session::Absent,
@@ -165,11 +163,8 @@ pub(crate) fn request_fields(e: Endpoint, clock: u64) -> Fields
     let state = e.state;
     let k = request_of(state);
     let stamp = stamp_of(e, clock);
-    plain_fields(
+    sent_fields(
         k,
-        false,
-        false,
-        false,
         false,
         e.settings.connection,
         stamp,
@@ -181,11 +176,8 @@ pub(crate) fn refresh_fields(e: Endpoint, clock: u64) -> Fields
     ensures { λ r. ⌜ r ≡ refreshFields e clock ⌝ }
 {
     let stamp = stamp_of(e, clock);
-    plain_fields(
+    sent_fields(
         Command::Refresh,
-        false,
-        false,
-        false,
         e.settings.slave,
         e.settings.connection,
         stamp,
@@ -197,32 +189,25 @@ pub(crate) fn disconnect_fields(e: Endpoint, clock: u64) -> Fields
     ensures { λ r. ⌜ r ≡ disconnectFields e clock ⌝ }
 {
     let stamp = stamp_of(e, clock);
-    plain_fields(
-        Command::Disconnect,
-        false,
-        false,
-        false,
-        false,
-        e.settings.connection,
-        stamp,
-        0,
-    )
+    sent_fields(Command::Disconnect, false, e.settings.connection, stamp, 0)
 }
 
 pub(crate) fn reply_fields(e: Endpoint, f: Fields, busy: bool, error: bool) -> Fields
     ensures { λ r. ⌜ r ≡ replyFields e f busy error ⌝ }
 {
     let k = f.command;
-    plain_fields(
-        k,
-        true,
-        busy,
-        error,
-        true,
-        e.settings.connection,
-        f.timestamp % 281474976710656,
-        0,
-    )
+    Fields {
+        command: k,
+        ack: true,
+        busy: busy,
+        error: error,
+        sequence: false,
+        application: true,
+        session: Session::Absent,
+        connection: e.settings.connection,
+        timestamp: f.timestamp % 281474976710656,
+        baseline: 0,
+    }
 }
 
 // Writes a frame that can be written to an output that has room for every frame.

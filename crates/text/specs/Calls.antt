@@ -17,13 +17,14 @@ use Rattle.text.specs.declared.number.Number.{Number}
 use Rattle.text.specs.declared.number.Number.the-variants.{Value, Invalid}
 use Rattle.text.specs.Reading.{wordIn, restOf, numberOf, isHex, isFrame, isLoad}
 
--- the name that a word is, byte by byte: of what a station's user sets, of any call that CLOCK and ENTRY alone follow,
--- and of any call
+-- ---- the name that a word is, byte by byte
+-- notready, ready: what a station's user sets
 unfoldable pub stationName : List ℕ → Name
 stationName w =
     cond (same w (110 ∷ 111 ∷ 116 ∷ 114 ∷ 101 ∷ 97 ∷ 100 ∷ 121 ∷ [])) (Timed A.NotReady)
     (cond (same w (114 ∷ 101 ∷ 97 ∷ 100 ∷ 121 ∷ [])) (Timed A.Ready) Unknown)
 
+-- start, stop, restart, show, and these: the calls that CLOCK and ENTRY alone follow
 unfoldable pub timedName : List ℕ → Name
 timedName w =
     cond (same w (115 ∷ 116 ∷ 97 ∷ 114 ∷ 116 ∷ [])) (Timed A.Start)
@@ -31,6 +32,7 @@ timedName w =
     (cond (same w (114 ∷ 101 ∷ 115 ∷ 116 ∷ 97 ∷ 114 ∷ 116 ∷ [])) (Timed A.Restart)
     (cond (same w (115 ∷ 104 ∷ 111 ∷ 119 ∷ [])) (Timed A.Show) (stationName w))))
 
+-- load, deliver, check, room, send, and these: any call
 unfoldable pub nameOf : List ℕ → Name
 nameOf w =
     cond (same w (108 ∷ 111 ∷ 97 ∷ 100 ∷ [])) Load
@@ -39,6 +41,7 @@ nameOf w =
     (cond (same w (114 ∷ 111 ∷ 111 ∷ 109 ∷ [])) Room
     (cond (same w (115 ∷ 101 ∷ 110 ∷ 100 ∷ [])) Send (timedName w)))))
 
+-- ---- what follows it
 -- CLOCK below 2^64 and ENTRY below 2^32
 unfoldable pub pairOf : Number → Number → Pair
 pairOf (Value clock) (Value entry) = cond (ltb entry 4294967296) (Both clock entry) Broken

@@ -1,38 +1,21 @@
 -- `device::calls::start` meets its contract.
 use borrow.Author.Needs.{needs}
-use borrow.Author.Tests.{not-true, not-false}
-use mathlib.Core.Bool.{false}
-use mathlib.Core.Path.{sym, _∙_}
-use Rattle.device.proofs.OnEntry.{refused-plain, acted-plain, start-quiet}
+use Rattle.device.proofs.OnEntry.{settled-plain, start-quiet}
 use Rattle.device.specs.Tables.{endpointAt}
-use Rattle.device.specs.Calls.{beforeEntry}
 use Rattle.steps.specs.Calls.{startOf}
 use Rattle.device.proofs.calls.start.Statement.{statement}
 use Rattle.device.proofs.calls.start.Tie as tie
 
 returns : tie.Need-returns
 returns c =
-    let i = c .before in
-    let b = i .before .before in
-    let a = b .before .before .before .args in
-    refused-plain (a .clock) (a .n) (a .device) _ (beforeEntry (a .device) (a .clock) false (a .n))
-    (b .before-entry .result)
-    (rw (← b .before .endpoint-at .ensures) (b .before-entry .ensures)) (c .refused .result)
-    (sym (i .before .is-done .ensures) ∙ not-true _ (i .if1 .taken)) (c .refused .ensures)
-
-returns-2 : tie.Need-returns-2
-returns-2 c =
     let s = c .before in
-    let i = s .before in
-    let b = i .before .before in
+    let b = s .before in
     let p = b .before in
     let a = p .before .before .args in
-    acted-plain (λ e. startOf e (a .clock)) (a .device) (a .clock) (a .n) false (b .before-entry .result)
-    (s .start .result)
-    (c .acted .result) (rw (← p .endpoint-at .ensures) (b .before-entry .ensures))
-    (sym (i .before .is-done .ensures) ∙ not-false _ (i .if1 .left))
+    settled-plain (λ e. startOf e (a .clock)) (a .device) (a .clock) (a .n) (b .before-entry .result) (s .start .result) (c .settled .result)
+    (rw (← p .endpoint-at .ensures) (b .before-entry .ensures))
     (start-quiet (endpointAt (a .device .endpoints) (a .n)) (a .clock))
-    (rw (← p .endpoint-at .ensures) (s .start .ensures)) (c .acted .ensures)
+    (rw (← p .endpoint-at .ensures) (s .start .ensures)) (c .settled .ensures)
 
 pub start-spec : {M : Type 1} → statement M
 start-spec =
@@ -42,7 +25,4 @@ start-spec =
     (λ c κs. search needs)
     (λ c κs. search needs)
     (λ c κs. search needs)
-    returns
-    (λ c κs. search needs)
-    (λ c κs. search needs)
-    returns-2)
+    returns)
