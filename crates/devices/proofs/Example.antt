@@ -86,16 +86,16 @@ unfolding list cid connectionAt settingsAt isConnectionAt isNewAt areConnections
 slave = record { done = refl; entry = 0; there = refl; role = refl }
 
 allowed : run .allowed ≡ true
-unfolding run line exchange answered data-of clocks at-master at-slave list cid afterAll areBytes lastFrom lastOf endpointAt
-    findFrom entryOf freshUpTo tickedAll connectionAt settingsAt isConnectionAt isNewAt areConnections isList bytesOf
-    setupData controlOf hasForm hasCheckWord fieldsIn readingOfCopies readingOf headBytes withCheckWord twice subBytes
-    frameBytes isWritable bitStep bitSteps byteStep crcFrom crc
+unfolding run line exchange answered data-of clocks at-master at-slave list cid afterAll areBytes lastFrom lastOf
+    endpointAt findFrom entryOf freshUpTo tickedAll connectionAt settingsAt isConnectionAt isNewAt areConnections isList
+    bytesOf setupData controlOf hasForm hasCheckWord fieldsIn readingOfCopies readingOf headBytes withCheckWord twice
+    subBytes frameBytes isWritable bitStep bitSteps byteStep crcFrom crc
 allowed = refl
 
 shown : run .shows
     ≡ (L.shown true 5070 (1 ∷ 2 ∷ 3 ∷ 4 ∷ []) 13 13 ∷ L.shown false 5080 (5 ∷ 6 ∷ 7 ∷ 8 ∷ []) 14 14 ∷ [])
-unfolding run line exchange answered data-of clocks at-master at-slave list cid afterAll areBytes lastFrom lastOf endpointAt
-    findFrom entryOf freshUpTo tickedAll connectionAt settingsAt isConnectionAt isNewAt areConnections isList bytesOf
-    setupData controlOf hasForm hasCheckWord fieldsIn readingOfCopies readingOf headBytes withCheckWord twice subBytes
-    frameBytes isWritable bitStep bitSteps byteStep crcFrom crc
+unfolding run line exchange answered data-of clocks at-master at-slave list cid afterAll areBytes lastFrom lastOf
+    endpointAt findFrom entryOf freshUpTo tickedAll connectionAt settingsAt isConnectionAt isNewAt areConnections isList
+    bytesOf setupData controlOf hasForm hasCheckWord fieldsIn readingOfCopies readingOf headBytes withCheckWord twice
+    subBytes frameBytes isWritable bitStep bitSteps byteStep crcFrom crc
 shown = refl

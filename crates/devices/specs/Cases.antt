@@ -175,7 +175,7 @@ cases =
     -- unequal contents: 16, with Error and without Busy
     ∷ case (numberOf (asked ParamVerify K.RefreshReady word .answer)) 16
     ∷ case (controlIn (asked ParamVerify K.RefreshReady word .writes)) 0xFCA40000
-    -- a master on a Busy reply: 0; its state stays, its timer starts afresh, m2 is not fixed, the same Cmd is sent again
+    -- a master on a Busy reply: 0; its state stays, its timer starts afresh, m2 is not fixed, the same Cmd is due again
     ∷ case (numberOf (busyReply false (0 ∷ 0 ∷ 0 ∷ 0 ∷ []) .answer)) 0
     ∷ case (stateNumber (dueAgain .state)) (stateNumber ParamVerify)
     ∷ case (dueAgain .since) 1030

@@ -209,7 +209,8 @@ module _ (c : Clocks) (sm ss : Settings) (p : Paired sm ss) {l : List Entry} {em
 
       module _ (busy error : Bool) (may : busy ≡ true → mayBeBusy (f .command) ≡ true)
           (n : is (f .command) K.Refresh ≡ false) where
-        reply-mark : markOf (replying busy error) ≡ mark 1 (codeOf (f .command)) (at (marks l) k .stamp) 0 (t + c .slave) body
+        reply-mark : markOf (replying busy error)
+            ≡ mark 1 (codeOf (f .command)) (at (marks l) k .stamp) 0 (t + c .slave) body
         reply-mark =
             let s : f .timestamp % span ≡ at (marks l) k .stamp = mod-eq-of-lt small-stamp
             ∙ sym (marked-stamp f body l k g) in

@@ -29,8 +29,8 @@ use Rattle.steps.specs.Calls.{Outcome, dropped, isNothing, startOf, rest
 use Rattle.steps.specs.Calls.{stopFaults, stopOf}
 use Rattle.steps.specs.Deliveries.{isAsked, answersTo, refreshFaults, requestFaults, replyFaults, takeRefresh}
 use Rattle.steps.specs.Deliveries.{takeRequest, takeReply, deliverOf}
-use Rattle.steps.specs.Laws.{StartDone, RestartDone, NotReadySet, RefreshSent, RequestSent, StopDone, RefreshTaken}
-use Rattle.steps.specs.Laws.{RequestTaken, DisconnectTaken, ReplyTaken}
+use Rattle.steps.specs.Laws.{StartDone, RestartDone, NotReadySet, RefreshSent, RequestSent, StopDone}
+use Rattle.steps.specs.Laws.{RefreshTaken, RequestTaken, DisconnectTaken, ReplyTaken}
 use Rattle.steps.proofs.Carried.{may-request, master-requests}
 use Rattle.steps.proofs.Dispatch.{cond-false, deliver-echo, deliver-refresh, deliver-request, deliver-reply}
 use Rattle.steps.proofs.Firsts.{not-dropped, not-soon, first-done, sent-width, neither}

@@ -22,8 +22,8 @@ use Rattle.endpoint.specs.declared.State.the-variants.{RefreshPending, Refresh,
 use Rattle.endpoint.specs.declared.Endpoint.{Endpoint}
 use Rattle.endpoint.specs.Table.{requestOf}
 use Rattle.endpoint.specs.Time.{span}
-use Rattle.steps.specs.Frames.{setupData, widthOf, sendWidth, showWidth, timeOf, sentFields, ackFields, baselineOf}
-use Rattle.steps.specs.Frames.{requestFields, refreshFields, disconnectFields, replyFields}
+use Rattle.steps.specs.Frames.{setupData, widthOf, sendWidth, showWidth, timeOf, sentFields, ackFields}
+use Rattle.steps.specs.Frames.{baselineOf, requestFields, refreshFields, disconnectFields, replyFields}
 use Rattle.steps.specs.Deliveries.{isBusy}
 use Rattle.steps.specs.Says.{WholeSays}
 

@@ -11,8 +11,9 @@ ghost use Rattle.endpoint.specs.Answers.{firstOf};
 ghost use Rattle.steps.specs.Frames.{setupData};
 ghost use Rattle.steps.specs.Deliveries.{leftBy, acceptedOf, ageOf, refreshFaults, paddedOf, refreshedOf};
 ghost use Rattle.steps.specs.Deliveries.{takeRefresh, requestFaults, endedBy, measuredBy, offsetBy, advancedOf};
-ghost use Rattle.steps.specs.Deliveries.{isBusy, deferredOf, answeredOf, takenOf, takeRequest, isAsked, answersTo};
-ghost use Rattle.steps.specs.Deliveries.{replyFaults, confirmedOf, dueAgainOf, heardOf, takeReply, deliverOf};
+ghost use Rattle.steps.specs.Deliveries.{isBusy, deferredOf, answeredOf, takenOf, takeRequest, isAsked};
+ghost use Rattle.steps.specs.Deliveries.{answersTo, replyFaults, confirmedOf, dueAgainOf, heardOf, takeReply};
+ghost use Rattle.steps.specs.Deliveries.{deliverOf};
 ghost use Rattle.steps.specs.Says.{plainStep, withRoom, StepSays};
 use super::Stepped;
 use super::lifecycle::stepped;
@@ -418,7 +419,7 @@ fn due_again(e: Endpoint, clock: u64) -> Endpoint
     ensures { λ r. ⌜ r ≡ dueAgainOf e clock ⌝ }
 {
     let settings = e.settings;
-    let state = e.state;
+    let stays = e.state;
     let timestamps = e.timestamps;
     let setup = e.setup;
     let m2 = setup.measured;
@@ -426,7 +427,7 @@ fn due_again(e: Endpoint, clock: u64) -> Endpoint
     let value = e.value;
     Endpoint {
         settings: settings,
-        state: state,
+        state: stays,
         since: clock,
         timestamps: timestamps,
         setup: Setup {

@@ -12,7 +12,8 @@ returns c =
     let b = s .before in
     let p = b .before in
     let a = p .before .before .args in
-    settled-plain (λ e. restartOf e) (a .device) (a .clock) (a .n) (b .before-entry .result) (s .restart .result) (c .settled .result)
+    settled-plain (λ e. restartOf e) (a .device) (a .clock) (a .n) (b .before-entry .result)
+    (s .restart .result) (c .settled .result)
     (rw (← p .endpoint-at .ensures) (b .before-entry .ensures))
     (restart-quiet (endpointAt (a .device .endpoints) (a .n)))
     (rw (← p .endpoint-at .ensures) (s .restart .ensures)) (c .settled .ensures)

@@ -12,7 +12,8 @@ returns c =
     let b = s .before in
     let p = b .before in
     let a = p .before .before .args in
-    settled-plain (λ e. setNotReadyOf e (a .notready)) (a .device) (a .clock) (a .n) (b .before-entry .result) (s .set-not-ready .result) (c .settled .result)
+    settled-plain (λ e. setNotReadyOf e (a .notready)) (a .device) (a .clock) (a .n) (b .before-entry .result)
+    (s .set-not-ready .result) (c .settled .result)
     (rw (← p .endpoint-at .ensures) (b .before-entry .ensures))
     (not-ready-quiet (endpointAt (a .device .endpoints) (a .n)) (a .notready))
     (rw (← p .endpoint-at .ensures) (s .set-not-ready .ensures)) (c .settled .ensures)

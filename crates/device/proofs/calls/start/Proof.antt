@@ -12,7 +12,8 @@ returns c =
     let b = s .before in
     let p = b .before in
     let a = p .before .before .args in
-    settled-plain (λ e. startOf e (a .clock)) (a .device) (a .clock) (a .n) (b .before-entry .result) (s .start .result) (c .settled .result)
+    settled-plain (λ e. startOf e (a .clock)) (a .device) (a .clock) (a .n) (b .before-entry .result)
+    (s .start .result) (c .settled .result)
     (rw (← p .endpoint-at .ensures) (b .before-entry .ensures))
     (start-quiet (endpointAt (a .device .endpoints) (a .n)) (a .clock))
     (rw (← p .endpoint-at .ensures) (s .start .ensures)) (c .settled .ensures)

@@ -1,5 +1,5 @@
 -- `text::parse::call_of` meets its contract: each arm is the definition's at its name.
-use mathlib.Core.Path.{sym, ap, ap₂, _∙_}
+use mathlib.Core.Path.{sym, ap, _∙_}
 use Rattle.text.specs.declared.parse.Name.{Name}
 use Rattle.text.specs.Calls.{timedIn, sendIn, deliverIn, checkIn, roomOf, callOf}
 use Rattle.text.specs.Reading.{numberOf}
@@ -25,7 +25,9 @@ returns-3 c =
     let m = c .before .before in
     let r = m .before .before in
     let s = r .before .before .args .line .now in
-    c .timed-in .ensures ∙ ap (timedIn _) (r .rest .ensures .0) ∙ ap (λ (n : Name). callOf n s) (sym (m .name .given .1))
+    c .timed-in .ensures
+    ∙ ap (timedIn _) (r .rest .ensures .0)
+    ∙ ap (λ (n : Name). callOf n s) (sym (m .name .given .1))
 
 returns-4 : tie.Need-returns-4
 unfolding callOf
