@@ -1,28 +1,23 @@
 -- A call on an entry: what a function of `steps` told is what the device's call comes to.
-use mathlib.Core.Path.{_≡_, refl, sym, ap, _∙_}
-use mathlib.Core.Bool.{Bool, true, false, _&&_, not, cond, false≢true}
+use mathlib.Core.Path.{_≡_, sym, ap, _∙_}
+use mathlib.Core.Bool.{Bool, true, false, cond, false≢true}
 use mathlib.Core.List.{List, []}
 use Prim.Native.Nat.{ℕ}
 use lib.Dec.{ltb}
 use lib.ListN.{length}
 use Rattle.frame.specs.Output.{over}
 use Rattle.endpoint.specs.declared.Timestamp.{Timestamp}
-use Rattle.endpoint.specs.declared.State.the-variants.{Close, Terminate}
 use Rattle.endpoint.specs.declared.Endpoint.{Endpoint}
-use Rattle.endpoint.specs.declared.Reason.the-variants as R
 use Rattle.endpoint.specs.declared.Answer.{Answer}
-use Rattle.endpoint.specs.declared.Answer.the-variants.{Done, Dropped}
+use Rattle.endpoint.specs.declared.Answer.the-variants.{Done}
 use Rattle.endpoint.specs.Answers.{isDone}
-use Rattle.endpoint.specs.Table.{isState}
 use Rattle.endpoint.specs.Time.{afterTick}
-use Rattle.endpoint.specs.Updates.{withNotReady}
 use Rattle.steps.proofs.Dispatch.{cond-true, cond-false}
 use Rattle.steps.proofs.Keeps.{bcase}
 use Rattle.steps.specs.declared.Stepped.{Stepped}
 use Rattle.steps.specs.declared.Shown.{Shown}
 use Rattle.steps.specs.Frames.{nothing, bytesOf}
-use Rattle.steps.specs.Calls.{Outcome, outcome, dropped, startedOf, startOf, restartedOf, restartOf, setNotReadyOf}
-use Rattle.steps.specs.Calls.{shownOf}
+use Rattle.steps.specs.Calls.{Outcome, shownOf}
 use Rattle.steps.specs.Says.{withRoom, plainStep, StepSays, shownTo, ShowSays}
 use Rattle.device.specs.declared.Device.{Device}
 use Rattle.device.specs.declared.Entry.the-variants.{At}
@@ -147,22 +142,3 @@ shown-says d t n out out′ b s called q h v r =
       }) ∙ ap calledOf (sym a);
       output = v .output ∙ ap (λ (x : List ℕ). over x out) w ∙ ap (λ (x : Result). over (x .writes) out) (sym a);
     }
-
--- only send, stop and deliver write frames
-either-quiet : (b : Bool) (x y : Outcome) → x .writes ≡ nothing → y .writes ≡ nothing → cond b x y .writes ≡ nothing
-either-quiet true x y h k = h
-either-quiet false x y h k = k
-
-pub start-quiet : (e : Endpoint) (t : ℕ) → startOf e t .writes ≡ nothing
-start-quiet e t =
-    either-quiet (not (e .settings .slave) && isState (e .state) Close) (outcome Done (startedOf e t) nothing)
-    (dropped e (Dropped R.Turn)) refl refl
-
-pub restart-quiet : (e : Endpoint) → restartOf e .writes ≡ nothing
-restart-quiet e =
-    either-quiet (isState (e .state) Terminate) (outcome Done (restartedOf e) nothing)
-    (dropped e (Dropped R.Turn)) refl refl
-
-pub not-ready-quiet : (e : Endpoint) (b : Bool) → setNotReadyOf e b .writes ≡ nothing
-not-ready-quiet e b =
-    either-quiet (e .settings .slave) (outcome Done (withNotReady b e) nothing) (dropped e (Dropped R.Turn)) refl refl

@@ -1,12 +1,9 @@
 -- The laws of the calls, all of them.
-use mathlib.Core.Path.{_≡_, refl, sym}
-use mathlib.Core.Bool.{_&&_, not}
+use mathlib.Core.Path.{_≡_, refl, sym, subst}
 use Prim.Native.Nat.{ℕ}
-use Rattle.endpoint.specs.declared.State.the-variants.{Close, Terminate}
 use Rattle.endpoint.specs.declared.Endpoint.{Endpoint}
 use Rattle.endpoint.specs.declared.Reason.{Reason}
 use Rattle.endpoint.specs.declared.Answer.the-variants.{Dropped}
-use Rattle.endpoint.specs.Table.{isState}
 use Rattle.steps.specs.Calls.{dropped}
 use Rattle.steps.specs.Steps.{Act, start, stop, restart, setNotReady, Call, act, send, deliver, show, actOf}
 use Rattle.steps.specs.Steps.{stepOf}
@@ -14,7 +11,7 @@ use Rattle.steps.specs.Laws.{Carries, SettingsFit, IsTyped, HandsBytes, 
 use Rattle.steps.proofs.Carried as C
 use Rattle.steps.proofs.Dones as D
 use Rattle.steps.proofs.Keeps as P
-use Rattle.steps.proofs.Keeps.{bcase}
+use Rattle.steps.proofs.Quiet.{start-quiet, restart-quiet, not-ready-quiet}
 use Rattle.steps.proofs.Types as T
 
 -- ---- settings
@@ -32,10 +29,10 @@ keeps e t show = refl
 
 -- ---- what is written; only stop writes
 act-carries : (e : Endpoint) (t : ℕ) (a : Act) → Carries e (actOf e t a .writes)
-act-carries e t start = bcase (not (e .settings .slave) && isState (e .state) Close) (λ h. rw h tt) (λ h. rw h tt)
+act-carries e t start = subst (Carries e) (sym (start-quiet e t)) tt
 act-carries e t stop = C.stop-carries e t
-act-carries e t restart = bcase (isState (e .state) Terminate) (λ h. rw h tt) (λ h. rw h tt)
-act-carries e t (setNotReady b) = bcase (e .settings .slave) (λ h. rw h tt) (λ h. rw h tt)
+act-carries e t restart = subst (Carries e) (sym (restart-quiet e)) tt
+act-carries e t (setNotReady b) = subst (Carries e) (sym (not-ready-quiet e b)) tt
 
 carries : (e : Endpoint) (t : ℕ) (call : Call) → Carries e (stepOf e t call .writes)
 carries e t (act a) = act-carries e t a
@@ -44,10 +41,10 @@ carries e t (deliver f body) = C.deliver-carries e t f body
 carries e t show = tt
 
 act-typed : (e : Endpoint) (t : ℕ) (a : Act) → SettingsFit (e .settings) → IsTyped (actOf e t a .writes)
-act-typed e t start f = bcase (not (e .settings .slave) && isState (e .state) Close) (λ h. rw h tt) (λ h. rw h tt)
+act-typed e t start f = subst IsTyped (sym (start-quiet e t)) tt
 act-typed e t stop f = T.stop-typed e t f
-act-typed e t restart f = bcase (isState (e .state) Terminate) (λ h. rw h tt) (λ h. rw h tt)
-act-typed e t (setNotReady b) f = bcase (e .settings .slave) (λ h. rw h tt) (λ h. rw h tt)
+act-typed e t restart f = subst IsTyped (sym (restart-quiet e)) tt
+act-typed e t (setNotReady b) f = subst IsTyped (sym (not-ready-quiet e b)) tt
 
 typed : (e : Endpoint) (t : ℕ) (call : Call) → SettingsFit (e .settings) → HandsBytes call
     → IsTyped (stepOf e t call .writes)

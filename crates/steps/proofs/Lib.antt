@@ -7,6 +7,7 @@ pub mod Outcomes
 pub mod Shows
 pub mod Whole
 pub mod Keeps
+pub mod Quiet
 pub mod Carried
 pub mod Dones
 pub mod Types

@@ -1,7 +1,8 @@
 -- `device::calls::restart` meets its contract.
 use borrow.Author.Needs.{needs}
-use Rattle.device.proofs.OnEntry.{settled-plain, restart-quiet}
+use Rattle.device.proofs.OnEntry.{settled-plain}
 use Rattle.device.specs.Tables.{endpointAt}
+use Rattle.steps.proofs.Quiet.{restart-quiet}
 use Rattle.steps.specs.Calls.{restartOf}
 use Rattle.device.proofs.calls.restart.Statement.{statement}
 use Rattle.device.proofs.calls.restart.Tie as tie

@@ -1,7 +1,8 @@
 -- `device::calls::set_not_ready` meets its contract.
 use borrow.Author.Needs.{needs}
-use Rattle.device.proofs.OnEntry.{settled-plain, not-ready-quiet}
+use Rattle.device.proofs.OnEntry.{settled-plain}
 use Rattle.device.specs.Tables.{endpointAt}
+use Rattle.steps.proofs.Quiet.{not-ready-quiet}
 use Rattle.steps.specs.Calls.{setNotReadyOf}
 use Rattle.device.proofs.calls.set_not_ready.Statement.{statement}
 use Rattle.device.proofs.calls.set_not_ready.Tie as tie

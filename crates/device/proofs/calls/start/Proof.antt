@@ -1,7 +1,8 @@
 -- `device::calls::start` meets its contract.
 use borrow.Author.Needs.{needs}
-use Rattle.device.proofs.OnEntry.{settled-plain, start-quiet}
+use Rattle.device.proofs.OnEntry.{settled-plain}
 use Rattle.device.specs.Tables.{endpointAt}
+use Rattle.steps.proofs.Quiet.{start-quiet}
 use Rattle.steps.specs.Calls.{startOf}
 use Rattle.device.proofs.calls.start.Statement.{statement}
 use Rattle.device.proofs.calls.start.Tie as tie
