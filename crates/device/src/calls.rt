@@ -191,7 +191,7 @@ pub fn set_not_ready(device: Device, clock: u64, n: u32, notready: bool) -> Call
     let endpoints = device.endpoints;
     let e = endpoint_at(endpoints, n);
     let before = before_entry(last, device.count, n, e, clock, false);
-    let step = steps::lifecycle::set_not_ready(e, notready);
+    let step = steps::station::set_not_ready(e, notready);
     settled(before, step, clock, n, device)
 }
 

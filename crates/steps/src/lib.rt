@@ -6,6 +6,7 @@ pub mod lifecycle;
 mod requests;
 pub mod send;
 pub mod show;
+pub mod station;
 
 use endpoint::Answer;
 use endpoint::Endpoint;

@@ -1,11 +1,9 @@
-// A user's calls that begin and end a connection, or say that its station is not ready: fresh, start, stop, restart,
-// set_not_ready.
+// A user's calls that begin and end a connection: fresh, start, stop, restart.
 ghost use mathlib.Core.Path.{_≡_};
 ghost use lib.ListN.{length};
 ghost use Rattle.endpoint.specs.Answers.{firstOf};
-ghost use Rattle.endpoint.specs.Updates.{withNotReady};
 ghost use Rattle.steps.specs.Calls.{freshOf, startedOf, startOf, restartedOf, restartOf, stampedOf, stopFaults};
-ghost use Rattle.steps.specs.Calls.{stoppedOf, stopOf, setNotReadyOf};
+ghost use Rattle.steps.specs.Calls.{stoppedOf, stopOf};
 ghost use Rattle.steps.specs.Says.{steppedOf, plainStep, withRoom, StepSays};
 use super::Stepped;
 use super::requests::disconnect_fields;
@@ -118,35 +116,6 @@ pub fn restart(e: Endpoint) -> Stepped
     let state = e.state;
     if is_state(state, State::Terminate) {
         return stepped(Answer::Done, restarted(e), 0);
-    }
-    stepped(Answer::Dropped(Reason::Turn), e, 0)
-}
-
-fn with_not_ready(e: Endpoint, notready: bool) -> Endpoint
-    ensures { λ r. ⌜ r ≡ withNotReady notready e ⌝ }
-{
-    let settings = e.settings;
-    let state = e.state;
-    let timestamps = e.timestamps;
-    let setup = e.setup;
-    let value = e.value;
-    Endpoint {
-        settings: settings,
-        state: state,
-        since: e.since,
-        timestamps: timestamps,
-        setup: setup,
-        station: Station { notready: notready },
-        value: value,
-    }
-}
-
-// A slave's user sets 'not ready', or clears it, in any state.
-pub fn set_not_ready(e: Endpoint, notready: bool) -> Stepped
-    ensures { λ r. ⌜ r ≡ plainStep (setNotReadyOf e notready) ⌝ }
-{
-    if e.settings.slave {
-        return stepped(Answer::Done, with_not_ready(e, notready), 0);
     }
     stepped(Answer::Dropped(Reason::Turn), e, 0)
 }

@@ -1,7 +1,7 @@
--- `steps::lifecycle::set_not_ready` meets its contract.
+-- `steps::station::set_not_ready` meets its contract.
 use borrow.Author.Needs.{needs}
-use Rattle.steps.proofs.lifecycle.set_not_ready.Statement.{statement}
-use Rattle.steps.proofs.lifecycle.set_not_ready.Tie as tie
+use Rattle.steps.proofs.station.set_not_ready.Statement.{statement}
+use Rattle.steps.proofs.station.set_not_ready.Tie as tie
 
 pub set-not-ready-spec : {M : Type 1} → statement M
 set-not-ready-spec =
