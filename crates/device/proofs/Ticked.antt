@@ -6,7 +6,7 @@ use lib.ListN.{length, set, length-map, List·getD-map}
 use lib.Seq.{set-getD}
 use Rattle.endpoint.specs.declared.Endpoint.{Endpoint}
 use Rattle.endpoint.specs.Time.{afterTick}
-use Rattle.steps.specs.Calls.{freshOf}
+use Rattle.transitions.specs.ByCall.{freshOf}
 use Rattle.device.specs.Tables.{noSettings, endpointAt, tickedAll}
 
 pub ticked-length : (es : List Endpoint) (t : ℕ) → length (tickedAll t es) ≡ length es

@@ -9,7 +9,7 @@ use Rattle.endpoint.specs.declared.Timestamp.{Timestamp}
 use Rattle.endpoint.specs.declared.Timestamp.the-variants.{Never}
 use Rattle.endpoint.specs.declared.Endpoint.{Endpoint}
 use Rattle.endpoint.specs.Time.{afterTick}
-use Rattle.steps.specs.Calls.{freshOf}
+use Rattle.transitions.specs.ByCall.{freshOf}
 use Rattle.settings.specs.Words.{settingsOf}
 use Rattle.settings.specs.Lists.{settingsAt}
 use Rattle.device.specs.declared.Device.{Device}

@@ -9,7 +9,7 @@ use endpoint::Answer;
 use endpoint::Endpoint;
 use endpoint::Reason;
 use endpoint::Timestamp;
-use steps::lifecycle::fresh;
+use transitions::by_call::fresh;
 
 // What loading answers, and the device it makes.
 pub struct Loaded {

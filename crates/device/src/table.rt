@@ -1,14 +1,14 @@
 // The table of connections: its entries, and the clock step on all of them.
 ghost use mathlib.Core.Path.{_≡_};
 ghost use lib.ListN.{set};
-ghost use Rattle.steps.specs.Calls.{freshOf};
+ghost use Rattle.transitions.specs.ByCall.{freshOf};
 ghost use Rattle.device.specs.Tables.{noSettings, isEntry, endpointAt, entryOf, tickedAll};
 use super::Entry;
 use endpoint::Endpoint;
 use endpoint::Settings;
 use endpoint::time::ended;
 use endpoint::time::expired;
-use steps::lifecycle::fresh;
+use transitions::by_call::fresh;
 
 // A place of the table that holds no connection.
 pub(crate) fn no_connection() -> Endpoint

@@ -13,8 +13,9 @@ use Rattle.endpoint.specs.declared.Answer.{Answer}
 use Rattle.endpoint.specs.declared.Answer.the-variants.{Done, Dropped, Ended}
 use Rattle.endpoint.specs.Table.{stateNumber, isState}
 use Rattle.endpoint.specs.Time.{isExpired, endedOf, afterTick}
+use Rattle.transitions.specs.ByCall.{startedOf, restartedOf}
 use Rattle.steps.specs.Frames.{nothing}
-use Rattle.steps.specs.Calls.{outcome, dropped, startedOf, restartedOf}
+use Rattle.steps.specs.Calls.{outcome, dropped}
 use Rattle.steps.specs.Steps.{Act, start, restart, Call, act, stepOf}
 use Rattle.steps.proofs.Dispatch.{cond-true, cond-false}
 use Rattle.steps.proofs.Keeps.{bcase}

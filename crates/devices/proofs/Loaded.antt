@@ -17,7 +17,7 @@ use Rattle.endpoint.specs.declared.Timestamp.the-variants.{Never}
 use Rattle.endpoint.specs.declared.Reason.the-variants as R
 use Rattle.endpoint.specs.declared.Answer.the-variants.{Done, Dropped}
 use Rattle.endpoint.specs.Answers.{isDone}
-use Rattle.steps.specs.Calls.{freshOf}
+use Rattle.transitions.specs.ByCall.{freshOf}
 use Rattle.steps.specs.Laws.{SettingsFit}
 use Rattle.settings.specs.Words.{restOf, isTicks, hasKinds}
 use Rattle.settings.specs.Lists.{wordOf, connectionAt, settingsAt, isConnectionAt, isNewAt, areConnections, countOf}

@@ -12,7 +12,7 @@ use borrow.Author.Tests.{eqb-true}
 use Rattle.endpoint.specs.declared.Settings.{Settings}
 use Rattle.endpoint.specs.declared.Endpoint.{Endpoint}
 use Rattle.endpoint.specs.Time.{isExpired, endedOf, afterTick}
-use Rattle.steps.specs.Calls.{freshOf}
+use Rattle.transitions.specs.ByCall.{freshOf}
 use Rattle.steps.proofs.Keeps.{bcase}
 use Rattle.device.specs.declared.Device.{Device}
 use Rattle.device.specs.declared.Entry.{Entry}

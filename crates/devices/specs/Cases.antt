@@ -21,8 +21,9 @@ use Rattle.endpoint.specs.declared.Endpoint.{Endpoint}
 use Rattle.endpoint.specs.Answers.{numberOf}
 use Rattle.endpoint.specs.Table.{stateNumber}
 use Rattle.endpoint.specs.Updates.{inState, timedFrom, withSetup, withPending, withNotReady}
+use Rattle.transitions.specs.ByCall.{freshOf}
 use Rattle.steps.specs.Frames.{Written, nothing, written, setupData, sentFields, ackFields, refreshFields, replyFields}
-use Rattle.steps.specs.Calls.{Outcome, freshOf, sendOf}
+use Rattle.steps.specs.Calls.{Outcome, sendOf}
 use Rattle.steps.specs.Deliveries.{deliverOf}
 use Rattle.settings.specs.Words.{settingsOf}
 use Rattle.settings.specs.Lists.{settingsAt}

@@ -6,6 +6,7 @@ use Rattle.endpoint.specs.declared.Reason.the-variants as R
 use Rattle.endpoint.specs.declared.Answer.{Answer}
 use Rattle.endpoint.specs.declared.Answer.the-variants.{Done, Dropped, Ended}
 use Rattle.endpoint.specs.declared.Faults.{Faults}
+use Rattle.endpoint.specs.declared.Endpoint.{Endpoint}
 
 abbrev pub reasonNumber : Reason → ℕ
 reasonNumber R.Clock = 1
@@ -68,3 +69,9 @@ abbrev pub isEnded : Answer → Bool
 isEnded Done = false
 isEnded (Dropped r) = false
 isEnded (Ended r) = true
+
+-- the endpoint that an answer leaves
+abbrev pub leftBy : Answer → Endpoint → Endpoint → Endpoint → Endpoint
+leftBy Done stays ends next = next
+leftBy (Dropped r) stays ends next = stays
+leftBy (Ended r) stays ends next = ends

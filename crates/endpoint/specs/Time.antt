@@ -32,6 +32,10 @@ minus a b = (a + (span - b % span)) % span
 abbrev pub masterTime : Bool → ℕ → ℕ → ℕ
 masterTime slave offset t = (t + cond slave offset 0) % span
 
+-- the same, of the endpoint at its clock reading
+abbrev pub timeOf : Endpoint → ℕ → ℕ
+timeOf e t = masterTime (e .settings .slave) (e .setup .offset) t
+
 -- a timestamp above the one remembered, if any
 abbrev pub isAbove : Timestamp → ℕ → Bool
 isAbove Never s = true

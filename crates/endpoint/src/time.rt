@@ -2,7 +2,7 @@
 ghost use mathlib.Core.Path.{_≡_};
 ghost use Prim.Native.Nat.{_-_, _+_, _%_};
 ghost use Rattle.endpoint.specs.Time.{span, minus, masterTime, isAbove, isTooFarAhead, allowanceOf, isTooLate};
-ghost use Rattle.endpoint.specs.Time.{offsetFrom, isOver, isExpired, noValue, endedOf, afterTick};
+ghost use Rattle.endpoint.specs.Time.{offsetFrom, isOver, isExpired, noValue, endedOf, afterTick, timeOf};
 use super::Endpoint;
 use super::Settings;
 use super::State;
@@ -45,7 +45,7 @@ fn slave_timestamp(clock: u64, offset: u64) -> u64
 }
 
 // An endpoint's clock in the master's, to reckon an age by.
-pub fn master_time(slave: bool, offset: u64, clock: u64) -> u64
+fn master_time(slave: bool, offset: u64, clock: u64) -> u64
     ensures { λ r. ⌜ r ≡ masterTime slave offset clock ⌝ }
 {
     if slave {
@@ -55,13 +55,27 @@ pub fn master_time(slave: bool, offset: u64, clock: u64) -> u64
 }
 
 // The timestamp of what an endpoint sends.
-pub fn timestamp(slave: bool, offset: u64, clock: u64) -> u64
+fn timestamp(slave: bool, offset: u64, clock: u64) -> u64
     ensures { λ r. ⌜ r ≡ masterTime slave offset clock ⌝ }
 {
     if slave {
         return slave_timestamp(clock, offset);
     }
     clock % 281474976710656
+}
+
+// The endpoint's time in the master's clock, to reckon an age by.
+pub fn time_of(e: Endpoint, clock: u64) -> u64
+    ensures { λ r. ⌜ r ≡ timeOf e clock ⌝ }
+{
+    master_time(e.settings.slave, e.setup.offset, clock)
+}
+
+// The same, as the timestamp of a frame to be sent.
+pub fn stamp_of(e: Endpoint, clock: u64) -> u64
+    ensures { λ r. ⌜ r ≡ timeOf e clock ⌝ }
+{
+    timestamp(e.settings.slave, e.setup.offset, clock)
 }
 
 pub fn is_above(last: Timestamp, stamp: u64) -> bool

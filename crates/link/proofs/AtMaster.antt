@@ -18,10 +18,12 @@ use Rattle.endpoint.specs.declared.Timestamps.{Timestamps}
 use Rattle.endpoint.specs.declared.Pending.the-variants.{Nothing}
 use Rattle.endpoint.specs.declared.Endpoint.{Endpoint}
 use Rattle.endpoint.specs.Table.{isState, isSetup, requestOf}
-use Rattle.endpoint.specs.Time.{span, minus, isExpired, endedOf, allowanceOf}
-use Rattle.steps.specs.Frames.{setupData, timeOf, baselineOf, requestFields, refreshFields, disconnectFields}
-use Rattle.steps.specs.Calls.{startedOf, restartedOf, requestedOf, refreshSentOf, stoppedOf, isFailSafe, shownOf}
-use Rattle.steps.specs.Deliveries.{ageOf, paddedOf, refreshedOf, confirmedOf, dueAgainOf}
+use Rattle.endpoint.specs.Time.{span, minus, isExpired, endedOf, allowanceOf, timeOf}
+use Rattle.transitions.specs.ByCall.{startedOf, restartedOf, requestedOf, refreshSentOf, stoppedOf}
+use Rattle.transitions.specs.ByFrame.{refreshedOf, confirmedOf, dueAgainOf}
+use Rattle.steps.specs.Frames.{setupData, baselineOf, requestFields, refreshFields, disconnectFields}
+use Rattle.steps.specs.Calls.{isFailSafe, shownOf}
+use Rattle.steps.specs.Deliveries.{ageOf, paddedOf}
 use Rattle.steps.specs.Laws.{RequestSent, RefreshSent, StopDone, ReplyTaken, RefreshTaken}
 use Rattle.steps.proofs.Dispatch.{cond-false}
 use Rattle.steps.proofs.Keeps.{bcase}

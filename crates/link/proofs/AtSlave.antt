@@ -19,11 +19,13 @@ use Rattle.endpoint.specs.declared.Timestamps.{Timestamps}
 use Rattle.endpoint.specs.declared.Endpoint.{Endpoint}
 use Rattle.endpoint.specs.declared.Next.{Next}
 use Rattle.endpoint.specs.Table.{isState, isNo, nextOf, stateTo}
-use Rattle.endpoint.specs.Time.{span, minus, isExpired, isAbove, endedOf, allowanceOf, offsetFrom}
+use Rattle.endpoint.specs.Time.{span, minus, isExpired, isAbove, endedOf, allowanceOf, offsetFrom, timeOf}
 use Rattle.endpoint.specs.Updates.{withNotReady}
-use Rattle.steps.specs.Frames.{timeOf, refreshFields, replyFields}
-use Rattle.steps.specs.Calls.{restartedOf, refreshSentOf, stoppedOf, isFailSafe, shownOf}
-use Rattle.steps.specs.Deliveries.{ageOf, paddedOf, refreshedOf, measuredBy, advancedOf, endedBy, isBusy, deferredOf}
+use Rattle.transitions.specs.ByCall.{restartedOf, refreshSentOf, stoppedOf}
+use Rattle.transitions.specs.ByFrame.{refreshedOf, measuredBy, advancedOf, endedBy, isBusy, deferredOf}
+use Rattle.steps.specs.Frames.{refreshFields, replyFields}
+use Rattle.steps.specs.Calls.{isFailSafe, shownOf}
+use Rattle.steps.specs.Deliveries.{ageOf, paddedOf}
 use Rattle.steps.specs.Laws.{RefreshSent, RequestTaken, RefreshTaken}
 use Rattle.steps.proofs.Dispatch.{cond-true}
 use Rattle.steps.proofs.Keeps.{bcase}

@@ -14,9 +14,11 @@ use Rattle.endpoint.specs.declared.Answer.{Answer}
 use Rattle.endpoint.specs.declared.Answer.the-variants.{Done, Dropped, Ended}
 use Rattle.endpoint.specs.Answers.{firstOf, isDropped}
 use Rattle.endpoint.specs.Time.{isExpired, isAbove, endedOf}
+use Rattle.transitions.specs.ByCall.{stoppedOf}
+use Rattle.transitions.specs.ByFrame.{endedBy}
 use Rattle.steps.specs.Frames.{nothing}
-use Rattle.steps.specs.Calls.{Outcome, outcome, sendOf, stopOf, stoppedOf}
-use Rattle.steps.specs.Deliveries.{requestFaults, replyFaults, takeRequest, takeReply, deliverOf, endedBy}
+use Rattle.steps.specs.Calls.{Outcome, outcome, sendOf, stopOf}
+use Rattle.steps.specs.Deliveries.{requestFaults, replyFaults, takeRequest, takeReply, deliverOf}
 use Rattle.steps.specs.Laws.{RefreshSent, RequestSent}
 use Rattle.steps.proofs.Dispatch.{cond-true, cond-false, deliver-request, deliver-reply}
 use Rattle.steps.proofs.Dones.{send-done, stop-done, refresh-done, request-done, reply-done}

@@ -22,10 +22,11 @@ use Rattle.endpoint.specs.Answers.{firstOf, isDone, isDropped}
 use Rattle.endpoint.specs.Table.{isState}
 use Rattle.endpoint.specs.Time.{endedOf}
 use Rattle.endpoint.specs.Updates.{withNotReady}
+use Rattle.transitions.specs.ByCall.{startedOf, restartedOf}
+use Rattle.transitions.specs.ByFrame.{refreshedOf}
 use Rattle.steps.specs.Frames.{nothing}
-use Rattle.steps.specs.Calls.{Outcome, outcome, dropped, startedOf, restartedOf, sendFaults, sentOf, sendOf, stopFaults}
-use Rattle.steps.specs.Calls.{stopOf}
-use Rattle.steps.specs.Deliveries.{refreshFaults, refreshedOf, paddedOf, takeRefresh, deliverOf}
+use Rattle.steps.specs.Calls.{Outcome, outcome, dropped, sendFaults, sentOf, sendOf, stopFaults, stopOf}
+use Rattle.steps.specs.Deliveries.{refreshFaults, paddedOf, takeRefresh, deliverOf}
 use Rattle.steps.proofs.Dispatch.{cond-true, cond-false, deliver-echo, deliver-refresh}
 use Rattle.steps.proofs.Keeps.{bcase}
 use Rattle.steps.specs.Steps.{Act, start, stop, restart, setNotReady, Call, act, send, deliver, show, actOf, stepOf}

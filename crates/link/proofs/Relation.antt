@@ -19,8 +19,8 @@ use Rattle.endpoint.specs.declared.Pending.the-variants.{Nothing, Asked}
 use Rattle.endpoint.specs.declared.Value.{Value}
 use Rattle.endpoint.specs.declared.Endpoint.{Endpoint}
 use Rattle.endpoint.specs.Table.{isState, isSetup, requestOf}
-use Rattle.endpoint.specs.Time.{span, half, masterTime, isAbove, isAhead, isTooFarAhead, isTooLate, isExpired}
-use Rattle.steps.specs.Frames.{showWidth, timeOf}
+use Rattle.endpoint.specs.Time.{span, half, masterTime, isAbove, isAhead, isTooFarAhead, isTooLate, isExpired, timeOf}
+use Rattle.steps.specs.Frames.{showWidth}
 use Rattle.steps.specs.Deliveries.{paddedOf}
 use Rattle.link.specs.Runs.{Clocks, clockLimit, Entry, entryAt}
 use Rattle.link.specs.Fresh.{Paired}

@@ -17,8 +17,9 @@ use Rattle.endpoint.specs.declared.Answer.{Answer}
 use Rattle.endpoint.specs.declared.Answer.the-variants.{Ended}
 use Rattle.endpoint.specs.Answers.{isDone}
 use Rattle.endpoint.specs.Time.{lastReading, isExpired, endedOf}
+use Rattle.transitions.specs.ByCall.{freshOf}
 use Rattle.steps.specs.Frames.{Written, nothing, written, sentFields}
-use Rattle.steps.specs.Calls.{Outcome, outcome, freshOf, isFailSafe, shownOf}
+use Rattle.steps.specs.Calls.{Outcome, outcome, isFailSafe, shownOf}
 use Rattle.steps.specs.Steps.{Call, act, send, deliver, show, stepOf}
 
 -- ---- moments

@@ -23,8 +23,8 @@ use Rattle.endpoint.specs.declared.Answer.{Answer}
 use Rattle.endpoint.specs.declared.Answer.the-variants.{Done, Dropped, Ended}
 use Rattle.endpoint.specs.Answers.{firstOf, isDropped}
 use Rattle.endpoint.specs.Table.{isState, isSetup, requestOf}
-use Rattle.endpoint.specs.Time.{isAbove}
-use Rattle.steps.specs.Frames.{setupData, showWidth, timeOf}
+use Rattle.endpoint.specs.Time.{isAbove, timeOf}
+use Rattle.steps.specs.Frames.{setupData, showWidth}
 use Rattle.steps.specs.Calls.{Outcome, dropped, isNothing, startOf, restartOf, setNotReadyOf, sendFaults, sendOf}
 use Rattle.steps.specs.Calls.{stopFaults, stopOf}
 use Rattle.steps.specs.Deliveries.{isAsked, answersTo, refreshFaults, requestFaults, replyFaults, takeRefresh}

@@ -12,13 +12,14 @@ use Rattle.endpoint.specs.declared.Endpoint.{Endpoint}
 use Rattle.endpoint.specs.declared.Answer.{Answer}
 use Rattle.endpoint.specs.declared.Answer.the-variants.{Done, Dropped, Ended}
 use Rattle.endpoint.specs.declared.State.the-variants.{Close, Refresh, Terminate}
-use Rattle.endpoint.specs.Answers.{firstOf, isDropped}
+use Rattle.endpoint.specs.Answers.{firstOf, isDropped, leftBy}
 use Rattle.endpoint.specs.Table.{isState}
 use Rattle.endpoint.specs.Time.{endedOf}
+use Rattle.transitions.specs.ByFrame.{isBusy, deferredOf, answeredOf, takenOf, endedBy, advancedOf, refreshedOf}
+use Rattle.transitions.specs.ByFrame.{confirmedOf, dueAgainOf, heardOf}
 use Rattle.steps.specs.Calls.{Outcome, startOf, restartOf, setNotReadyOf, sendFaults, sendOf, stopFaults, stopOf}
-use Rattle.steps.specs.Deliveries.{leftBy, isBusy, deferredOf, answeredOf, takenOf, endedBy, advancedOf}
-use Rattle.steps.specs.Deliveries.{refreshedOf, paddedOf, confirmedOf, dueAgainOf, heardOf, requestFaults}
-use Rattle.steps.specs.Deliveries.{refreshFaults, replyFaults, takeRefresh, takeRequest, takeReply, deliverOf}
+use Rattle.steps.specs.Deliveries.{paddedOf, requestFaults, refreshFaults, replyFaults, takeRefresh, takeRequest}
+use Rattle.steps.specs.Deliveries.{takeReply, deliverOf}
 use Rattle.steps.proofs.Dispatch.{deliver-echo, deliver-refresh, deliver-request, deliver-reply}
 
 -- by cases on a test

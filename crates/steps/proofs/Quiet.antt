@@ -8,8 +8,9 @@ use Rattle.endpoint.specs.declared.Reason.the-variants as R
 use Rattle.endpoint.specs.declared.Answer.the-variants.{Done, Dropped}
 use Rattle.endpoint.specs.Table.{isState}
 use Rattle.endpoint.specs.Updates.{withNotReady}
+use Rattle.transitions.specs.ByCall.{startedOf, restartedOf}
 use Rattle.steps.specs.Frames.{nothing}
-use Rattle.steps.specs.Calls.{Outcome, outcome, dropped, startedOf, startOf, restartedOf, restartOf, setNotReadyOf}
+use Rattle.steps.specs.Calls.{Outcome, outcome, dropped, startOf, restartOf, setNotReadyOf}
 
 either-quiet : (b : Bool) (x y : Outcome) → x .writes ≡ nothing → y .writes ≡ nothing → cond b x y .writes ≡ nothing
 either-quiet true x y h k = h

@@ -21,10 +21,10 @@ use Rattle.endpoint.specs.declared.State.the-variants.{Close, Starting, Establi
 use Rattle.endpoint.specs.declared.State.the-variants.{RefreshPending, Refresh, Terminate}
 use Rattle.endpoint.specs.declared.Endpoint.{Endpoint}
 use Rattle.endpoint.specs.Table.{requestOf}
-use Rattle.endpoint.specs.Time.{span}
-use Rattle.steps.specs.Frames.{setupData, widthOf, sendWidth, showWidth, timeOf, sentFields, ackFields}
-use Rattle.steps.specs.Frames.{baselineOf, requestFields, refreshFields, disconnectFields, replyFields}
-use Rattle.steps.specs.Deliveries.{isBusy}
+use Rattle.endpoint.specs.Time.{span, timeOf}
+use Rattle.transitions.specs.ByFrame.{isBusy}
+use Rattle.steps.specs.Frames.{setupData, widthOf, sendWidth, showWidth, sentFields, ackFields, baselineOf}
+use Rattle.steps.specs.Frames.{requestFields, refreshFields, disconnectFields, replyFields}
 use Rattle.steps.specs.Says.{WholeSays}
 
 pub whole : (f : Fields) (body out : List ℕ) {out′ : List ℕ} {count : ℕ} → 248 ≤ length out

@@ -5,10 +5,7 @@ use Prim.Native.Nat.{ℕ}
 use lib.Dec.{eqb}
 use lib.ListN.{length, take, replicate}
 use Rattle.frame.specs.declared.Command.the-variants as K
-use Rattle.endpoint.specs.declared.Settings.{Settings}
-use Rattle.endpoint.specs.declared.State.the-variants.{Close, Starting, Refresh, Terminate}
-use Rattle.endpoint.specs.declared.Timestamp.the-variants.{Never, At}
-use Rattle.endpoint.specs.declared.Timestamps.{Timestamps}
+use Rattle.endpoint.specs.declared.State.the-variants.{Close, Refresh, Terminate}
 use Rattle.endpoint.specs.declared.Pending.{Pending}
 use Rattle.endpoint.specs.declared.Pending.the-variants.{Nothing, Asked}
 use Rattle.endpoint.specs.declared.Endpoint.{Endpoint}
@@ -18,9 +15,10 @@ use Rattle.endpoint.specs.declared.Answer.the-variants.{Done, Dropped}
 use Rattle.endpoint.specs.declared.Faults.{Faults}
 use Rattle.endpoint.specs.Answers.{callFaults, firstOf, isDropped}
 use Rattle.endpoint.specs.Table.{isState, isSetup, requestOf}
-use Rattle.endpoint.specs.Time.{isAbove, noValue, endedOf}
-use Rattle.endpoint.specs.Updates.{endpointOf, inState, timedFrom, withTimestamps, withPending, withNotReady, holding}
-use Rattle.steps.specs.Frames.{Written, nothing, written, setupData, sendWidth, showWidth, timeOf, requestFields}
+use Rattle.endpoint.specs.Time.{isAbove, timeOf}
+use Rattle.endpoint.specs.Updates.{withNotReady}
+use Rattle.transitions.specs.ByCall.{startedOf, restartedOf, requestedOf, refreshSentOf, stoppedOf}
+use Rattle.steps.specs.Frames.{Written, nothing, written, setupData, sendWidth, showWidth, requestFields}
 use Rattle.steps.specs.Frames.{refreshFields, disconnectFields}
 
 -- what a call comes to: its answer, the endpoint it leaves, what it writes
@@ -36,25 +34,13 @@ outcome a e w = record { answer = a; endpoint = e; writes = w }
 abbrev pub dropped : Endpoint → Answer → Outcome
 dropped e a = outcome a e nothing
 
--- ---- a connection as loaded
-abbrev pub freshOf : Settings → Endpoint
-freshOf s =
-    endpointOf s Close 0 (record { sent = Never; accepted = Never })
-    (record { pending = Nothing; measured = 0; offset = 0 }) (record { notready = false }) noValue
-
 -- ---- start: a master's, in Close
-abbrev pub startedOf : Endpoint → ℕ → Endpoint
-startedOf e t = inState Starting (timedFrom t (withPending Nothing (holding noValue e)))
-
 abbrev pub startOf : Endpoint → ℕ → Outcome
 startOf e t =
     cond (not (e .settings .slave) && isState (e .state) Close) (outcome Done (startedOf e t) nothing)
     (dropped e (Dropped R.Turn))
 
--- ---- restart: from Terminate; timestamps are remembered
-abbrev pub restartedOf : Endpoint → Endpoint
-restartedOf e = inState Close (holding noValue e)
-
+-- ---- restart: from Terminate
 abbrev pub restartOf : Endpoint → Outcome
 restartOf e = cond (isState (e .state) Terminate) (outcome Done (restartedOf e) nothing) (dropped e (Dropped R.Turn))
 
@@ -77,16 +63,6 @@ sendFaults e t width =
     (isState (e .state) Refresh && not (eqb width (sendWidth (e .settings))))
     (not (isAbove (e .timestamps .sent) (timeOf e t)))
 
--- the timestamp is remembered as the last sent
-abbrev pub stampedOf : Endpoint → ℕ → Timestamps
-stampedOf e stamp = record { sent = At stamp; accepted = e .timestamps .accepted }
-
-abbrev pub requestedOf : Endpoint → ℕ → Endpoint
-requestedOf e t = timedFrom t (withTimestamps (stampedOf e (timeOf e t)) (withPending (Asked (timeOf e t)) e))
-
-abbrev pub refreshSentOf : Endpoint → ℕ → Endpoint
-refreshSentOf e t = withTimestamps (stampedOf e (timeOf e t)) e
-
 -- what a send that is done comes to
 abbrev pub sentOf : Endpoint → ℕ → List ℕ → Outcome
 sentOf e t value =
@@ -103,10 +79,6 @@ abbrev pub stopFaults : Endpoint → ℕ → Faults
 stopFaults e t =
     callFaults (isState (e .state) Close || isState (e .state) Terminate) false
     (not (e .settings .slave) && not (isAbove (e .timestamps .sent) (timeOf e t)))
-
-abbrev pub stoppedOf : Endpoint → ℕ → Endpoint
-stoppedOf e t =
-    withTimestamps (cond (e .settings .slave) (e .timestamps) (stampedOf e (timeOf e t))) (endedOf e)
 
 abbrev pub disconnectOf : Endpoint → ℕ → Written
 disconnectOf e t = cond (e .settings .slave) nothing

@@ -4,37 +4,25 @@ use mathlib.Core.List.{List, _++_}
 use Prim.Native.Nat.{ℕ}
 use lib.Dec.{eqb}
 use lib.ListN.{length, take, drop, replicate}
-use Rattle.frame.specs.declared.Command.{Command}
 use Rattle.frame.specs.declared.Command.the-variants as K
 use Rattle.frame.specs.declared.Fields.{Fields}
-use Rattle.frame.specs.Control.{is, mayBeBusy}
+use Rattle.frame.specs.Control.{is}
 use Rattle.frame.specs.Reading.{same}
 use Rattle.endpoint.specs.declared.State.the-variants.{Refresh}
-use Rattle.endpoint.specs.declared.Timestamp.the-variants.{At}
-use Rattle.endpoint.specs.declared.Timestamps.{Timestamps}
 use Rattle.endpoint.specs.declared.Pending.{Pending}
 use Rattle.endpoint.specs.declared.Pending.the-variants.{Nothing, Asked}
 use Rattle.endpoint.specs.declared.Endpoint.{Endpoint}
 use Rattle.endpoint.specs.declared.Reason.the-variants as R
 use Rattle.endpoint.specs.declared.Answer.{Answer}
-use Rattle.endpoint.specs.declared.Answer.the-variants.{Done, Dropped, Ended}
+use Rattle.endpoint.specs.declared.Answer.the-variants.{Dropped}
 use Rattle.endpoint.specs.declared.Faults.{Faults}
-use Rattle.endpoint.specs.Answers.{setupFaults, firstOf, isDone, isDropped, isEnded}
-use Rattle.endpoint.specs.Table.{isState, isSetup, nextOf, isNo, stateTo, requestOf}
-use Rattle.endpoint.specs.Time.{minus, isAbove, isTooFarAhead, allowanceOf, isTooLate, offsetFrom, noValue, endedOf}
-use Rattle.endpoint.specs.Updates.{inState, timedFrom, withTimestamps, withSetup, withPending, holding}
-use Rattle.steps.specs.Frames.{Written, nothing, written, setupData, showWidth, timeOf, replyFields}
+use Rattle.endpoint.specs.Answers.{setupFaults, firstOf, isDone, isDropped, isEnded, leftBy}
+use Rattle.endpoint.specs.Table.{isState, isSetup, nextOf, isNo, requestOf}
+use Rattle.endpoint.specs.Time.{minus, isAbove, isTooFarAhead, allowanceOf, isTooLate, endedOf}
+use Rattle.endpoint.specs.Time.{timeOf}
+use Rattle.transitions.specs.ByFrame.{refreshedOf, endedBy, isBusy, takenOf, heardOf}
+use Rattle.steps.specs.Frames.{Written, nothing, written, setupData, showWidth, replyFields}
 use Rattle.steps.specs.Calls.{Outcome, outcome, dropped}
-
--- the endpoint that an answer leaves
-abbrev pub leftBy : Answer → Endpoint → Endpoint → Endpoint → Endpoint
-leftBy Done stays ends next = next
-leftBy (Dropped r) stays ends next = stays
-leftBy (Ended r) stays ends next = ends
-
--- the timestamp is remembered as the last accepted
-abbrev pub acceptedOf : Endpoint → ℕ → Timestamps
-acceptedOf e stamp = record { sent = e .timestamps .sent; accepted = At stamp }
 
 -- ---- S-Refresh, at either end
 -- the timestamp's age: the receiver's time in the master's clock, less the timestamp
@@ -56,10 +44,6 @@ refreshFaults e t stamp width = record {
 abbrev pub paddedOf : List ℕ → List ℕ
 paddedOf body = take 100 body ++ drop (length body) (replicate 100 0)
 
-abbrev pub refreshedOf : Endpoint → ℕ → ℕ → List ℕ → Endpoint
-refreshedOf e t stamp bytes =
-    timedFrom t (withTimestamps (acceptedOf e stamp) (holding (record { taken = true; bytes = bytes }) e))
-
 abbrev pub takeRefresh : Endpoint → ℕ → ℕ → List ℕ → Outcome
 takeRefresh e t stamp body =
     let a = firstOf (refreshFaults e t stamp (length body)) in
@@ -72,43 +56,6 @@ requestFaults e f body =
     (not (eqb (length body) (length (setupData (e .settings) (f .command)))))
     (not (isAbove (e .timestamps .accepted) (f .timestamp)))
     (not (is (f .command) K.Disconnect) && not (same body (setupData (e .settings) (f .command))))
-
--- ended, and the frame's timestamp counts as accepted
-abbrev pub endedBy : Endpoint → ℕ → Endpoint
-endedBy e stamp = withTimestamps (acceptedOf e stamp) (endedOf e)
-
--- s2, or m2, is the clock at S-RefreshReady's reply
-abbrev pub measuredBy : Command → ℕ → ℕ → ℕ
-measuredBy k t measured = cond (is k K.RefreshReady) t measured
-
--- ts_offset comes with S-RefreshGO
-abbrev pub offsetBy : Endpoint → Fields → ℕ
-offsetBy e f =
-    cond (is (f .command) K.RefreshGo) (offsetFrom (f .timestamp) (f .baseline) (e .setup .measured)) (e .setup .offset)
-
--- the next state
-abbrev pub advancedOf : Endpoint → ℕ → Fields → Endpoint
-advancedOf e t f =
-    inState (stateTo (nextOf (f .command) (e .state)) (e .state))
-    (timedFrom t (withTimestamps (acceptedOf e (f .timestamp))
-    (withSetup (e .setup .pending) (measuredBy (f .command) t (e .setup .measured)) (offsetBy e f)
-    (holding noValue e))))
-
--- a station that is not ready answers S-InitConfirmNetPrm, S-InitVerifyStnPrm and S-RefreshReady with Busy 1
-abbrev pub isBusy : Endpoint → Command → Bool
-isBusy e k = e .station .notready && mayBeBusy k
-
--- its state stays, s2 too; the timestamp counts as accepted, and the timer runs from the reply (001: ST26, ST30, ST33)
-abbrev pub deferredOf : Endpoint → ℕ → Fields → Endpoint
-deferredOf e t f = timedFrom t (withTimestamps (acceptedOf e (f .timestamp)) e)
-
--- what a request that is done leaves once it has its reply
-abbrev pub answeredOf : Endpoint → ℕ → Fields → Endpoint
-answeredOf e t f = cond (isBusy e (f .command)) (deferredOf e t f) (advancedOf e t f)
-
--- what a request that is done leaves
-abbrev pub takenOf : Endpoint → ℕ → Fields → Endpoint
-takenOf e t f = cond (is (f .command) K.Disconnect) (endedBy e (f .timestamp)) (answeredOf e t f)
 
 -- the reply, with Error 1 and never Busy where the contents differ; S-Disconnect has none
 abbrev pub repliedOf : Endpoint → Fields → List ℕ → Answer → Written
@@ -137,22 +84,6 @@ replyFaults e f body =
     (not (eqb (length body) (length (setupData (e .settings) (requestOf (e .state))))))
     (not (answersTo (e .setup .pending) (f .timestamp)))
     (f .error || not (same body (setupData (e .settings) (requestOf (e .state)))))
-
--- the next state
-abbrev pub confirmedOf : Endpoint → ℕ → Endpoint
-confirmedOf e t =
-    inState (stateTo (nextOf (requestOf (e .state)) (e .state)) (e .state))
-    (timedFrom t (withSetup Nothing (measuredBy (requestOf (e .state)) t (e .setup .measured)) (e .setup .offset)
-    (holding noValue e)))
-
--- Busy: the request is due again, with a new timestamp; the timer starts afresh, the state and m2 stay (001: MT30 to
--- MT32)
-abbrev pub dueAgainOf : Endpoint → ℕ → Endpoint
-dueAgainOf e t = timedFrom t (withPending Nothing e)
-
--- what a reply that is done leaves
-abbrev pub heardOf : Endpoint → ℕ → Fields → Endpoint
-heardOf e t f = cond (f .busy) (dueAgainOf e t) (confirmedOf e t)
 
 abbrev pub takeReply : Endpoint → ℕ → Fields → List ℕ → Outcome
 takeReply e t f body =

@@ -13,7 +13,7 @@ use Rattle.frame.specs.Writing.{frameBytes}
 use Rattle.endpoint.specs.declared.Settings.{Settings}
 use Rattle.endpoint.specs.declared.Endpoint.{Endpoint}
 use Rattle.endpoint.specs.Table.{requestOf}
-use Rattle.endpoint.specs.Time.{span, masterTime}
+use Rattle.endpoint.specs.Time.{span, timeOf}
 
 -- what a call writes
 pub data Written : Type 0 where
@@ -52,10 +52,6 @@ sendWidth s = widthOf (cond (s .slave) (s .slavewords) (s .masterwords))
 
 abbrev pub showWidth : Settings → ℕ
 showWidth s = widthOf (cond (s .slave) (s .masterwords) (s .slavewords))
-
--- an endpoint's time in the master's clock
-abbrev pub timeOf : Endpoint → ℕ → ℕ
-timeOf e t = masterTime (e .settings .slave) (e .setup .offset) t
 
 -- a frame that is no reply: a request, S-Refresh or S-Disconnect; Application tells the direction
 abbrev pub sentFields : Command → Bool → ℕ → ℕ → ℕ → Fields

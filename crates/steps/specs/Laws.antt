@@ -17,14 +17,14 @@ use Rattle.endpoint.specs.declared.Endpoint.{Endpoint}
 use Rattle.endpoint.specs.declared.Reason.{Reason}
 use Rattle.endpoint.specs.declared.Answer.the-variants.{Done, Dropped}
 use Rattle.endpoint.specs.Table.{isState, isSetup, isNo, nextOf, requestOf}
-use Rattle.endpoint.specs.Time.{isAbove, isTooFarAhead, isTooLate, allowanceOf}
+use Rattle.endpoint.specs.Time.{isAbove, isTooFarAhead, isTooLate, allowanceOf, timeOf}
 use Rattle.endpoint.specs.Updates.{withNotReady}
-use Rattle.steps.specs.Frames.{Written, nothing, written, setupData, sendWidth, showWidth, timeOf, requestFields}
+use Rattle.transitions.specs.ByCall.{startedOf, restartedOf, requestedOf, refreshSentOf, stoppedOf}
+use Rattle.transitions.specs.ByFrame.{refreshedOf, isBusy, answeredOf, endedBy, heardOf}
+use Rattle.steps.specs.Frames.{Written, nothing, written, setupData, sendWidth, showWidth, requestFields}
 use Rattle.steps.specs.Frames.{refreshFields, replyFields}
-use Rattle.steps.specs.Calls.{outcome, dropped, startedOf, restartedOf, requestedOf, refreshSentOf, stoppedOf}
-use Rattle.steps.specs.Calls.{disconnectOf, startOf, restartOf, setNotReadyOf, sendOf, stopOf}
-use Rattle.steps.specs.Deliveries.{paddedOf, refreshedOf, isBusy, answeredOf, endedBy, heardOf, takeRefresh}
-use Rattle.steps.specs.Deliveries.{takeRequest, takeReply, ageOf}
+use Rattle.steps.specs.Calls.{outcome, dropped, disconnectOf, startOf, restartOf, setNotReadyOf, sendOf, stopOf}
+use Rattle.steps.specs.Deliveries.{paddedOf, takeRefresh, takeRequest, takeReply, ageOf}
 use Rattle.steps.specs.Steps.{Call, act, send, deliver, show, stepOf}
 
 -- what is written can be written, and carries the endpoint's CID and its role's Application bit

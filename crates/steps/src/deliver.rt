@@ -9,18 +9,14 @@ ghost use Rattle.frame.specs.Control.{is};
 ghost use Rattle.frame.specs.Reading.{same};
 ghost use Rattle.endpoint.specs.Answers.{firstOf};
 ghost use Rattle.steps.specs.Frames.{setupData};
-ghost use Rattle.steps.specs.Deliveries.{leftBy, acceptedOf, ageOf, refreshFaults, paddedOf, refreshedOf};
-ghost use Rattle.steps.specs.Deliveries.{takeRefresh, requestFaults, endedBy, measuredBy, offsetBy, advancedOf};
-ghost use Rattle.steps.specs.Deliveries.{isBusy, deferredOf, answeredOf, takenOf, takeRequest, isAsked};
-ghost use Rattle.steps.specs.Deliveries.{answersTo, replyFaults, confirmedOf, dueAgainOf, heardOf, takeReply};
-ghost use Rattle.steps.specs.Deliveries.{deliverOf};
+ghost use Rattle.steps.specs.Deliveries.{ageOf, refreshFaults, paddedOf, takeRefresh, requestFaults, takeRequest};
+ghost use Rattle.steps.specs.Deliveries.{isAsked, answersTo, replyFaults, takeReply, deliverOf};
 ghost use Rattle.steps.specs.Says.{plainStep, withRoom, StepSays};
 use super::Stepped;
 use super::lifecycle::stepped;
 use super::requests::reply_fields;
 use super::requests::setup_data;
 use super::requests::show_width;
-use super::requests::time_of;
 use super::requests::write_whole;
 use endpoint::Answer;
 use endpoint::Endpoint;
@@ -28,57 +24,33 @@ use endpoint::Faults;
 use endpoint::Pending;
 use endpoint::Reason;
 use endpoint::Settings;
-use endpoint::Setup;
 use endpoint::State;
-use endpoint::Timestamp;
-use endpoint::Timestamps;
-use endpoint::Value;
 use endpoint::answers::first_of;
 use endpoint::answers::is_done;
 use endpoint::answers::is_dropped;
 use endpoint::answers::is_ended;
+use endpoint::answers::left_by;
 use endpoint::table::is_no;
 use endpoint::table::is_setup;
 use endpoint::table::is_state;
 use endpoint::table::next_state;
 use endpoint::table::request_of;
-use endpoint::table::state_to;
 use endpoint::time::allowance;
 use endpoint::time::ended;
 use endpoint::time::is_above;
 use endpoint::time::is_too_far_ahead;
 use endpoint::time::is_too_late;
 use endpoint::time::minus;
-use endpoint::time::no_value;
-use endpoint::time::offset_from;
+use endpoint::time::time_of;
 use frame::Command;
 use frame::Fields;
 use frame::control::is;
-use frame::control::may_be_busy;
 use frame::read::same;
-
-// The endpoint that an answer leaves.
-fn left_by(answer: Answer, stays: Endpoint, ends: Endpoint, next: Endpoint) -> Endpoint
-    ensures { λ r. ⌜ r ≡ leftBy answer stays ends next ⌝ }
-{
-    match answer {
-        Answer::Done => next,
-        Answer::Dropped(_) => stays,
-        Answer::Ended(_) => ends,
-    }
-}
-
-// What is remembered once a frame with this timestamp is accepted.
-fn accepted(e: Endpoint, stamp: u64) -> Timestamps
-    ensures { λ r. ⌜ r ≡ acceptedOf e stamp ⌝ }
-{
-    let timestamps = e.timestamps;
-    let sent = timestamps.sent;
-    Timestamps {
-        sent: sent,
-        accepted: Timestamp::At(stamp),
-    }
-}
+use transitions::by_frame::ended_by;
+use transitions::by_frame::heard;
+use transitions::by_frame::is_busy;
+use transitions::by_frame::refreshed;
+use transitions::by_frame::taken;
 
 // A timestamp's age at an endpoint.
 fn age_of(e: Endpoint, clock: u64, stamp: u64) -> u64
@@ -134,28 +106,6 @@ fn padded(body: &[u8]) -> [u8; 100]
     copied(body, 100)
 }
 
-fn refreshed(e: Endpoint, clock: u64, stamp: u64, bytes: [u8; 100]) -> Endpoint
-    ensures { λ r. ⌜ r ≡ refreshedOf e clock stamp bytes ⌝ }
-{
-    let settings = e.settings;
-    let state = e.state;
-    let setup = e.setup;
-    let station = e.station;
-    let timestamps = accepted(e, stamp);
-    Endpoint {
-        settings: settings,
-        state: state,
-        since: clock,
-        timestamps: timestamps,
-        setup: setup,
-        station: station,
-        value: Value {
-            taken: true,
-            bytes: bytes,
-        },
-    }
-}
-
 // An S-Refresh of the other end.
 fn take_refresh(e: Endpoint, clock: u64, stamp: u64, body: &[u8]) -> Stepped
     ensures { λ r. ⌜ r ≡ plainStep (takeRefresh e clock stamp (now (body .entry))) ⌝ }
@@ -204,128 +154,6 @@ fn request_answer(e: Endpoint, f: Fields, body: &[u8]) -> Answer
         unequal: !disconnect & !equal,
         soon: false,
     })
-}
-
-fn ended_by(e: Endpoint, stamp: u64) -> Endpoint
-    ensures { λ r. ⌜ r ≡ endedBy e stamp ⌝ }
-{
-    let settings = e.settings;
-    let setup = e.setup;
-    let station = e.station;
-    let timestamps = accepted(e, stamp);
-    Endpoint {
-        settings: settings,
-        state: State::Terminate,
-        since: e.since,
-        timestamps: timestamps,
-        setup: setup,
-        station: station,
-        value: no_value(),
-    }
-}
-
-fn measured_by(k: Command, clock: u64, measured: u64) -> u64
-    ensures { λ r. ⌜ r ≡ measuredBy k clock measured ⌝ }
-{
-    if is(k, Command::RefreshReady) {
-        clock
-    } else {
-        measured
-    }
-}
-
-fn offset_by(e: Endpoint, f: Fields) -> u64
-    ensures { λ r. ⌜ r ≡ offsetBy e f ⌝ }
-{
-    let k = f.command;
-    if is(k, Command::RefreshGo) {
-        return offset_from(f.timestamp, f.baseline, e.setup.measured);
-    }
-    e.setup.offset
-}
-
-fn advanced(e: Endpoint, clock: u64, f: Fields) -> Endpoint
-    ensures { λ r. ⌜ r ≡ advancedOf e clock f ⌝ }
-{
-    let settings = e.settings;
-    let state = e.state;
-    let setup = e.setup;
-    let station = e.station;
-    let pending = setup.pending;
-    let k = f.command;
-    let next = state_to(next_state(k, state), state);
-    let timestamps = accepted(e, f.timestamp);
-    let measured = measured_by(k, clock, setup.measured);
-    let offset = offset_by(e, f);
-    Endpoint {
-        settings: settings,
-        state: next,
-        since: clock,
-        timestamps: timestamps,
-        setup: Setup {
-            pending: pending,
-            measured: measured,
-            offset: offset,
-        },
-        station: station,
-        value: no_value(),
-    }
-}
-
-// Whether a slave's reply to a command has Busy 1.
-fn is_busy(e: Endpoint, k: Command) -> bool
-    ensures { λ r. ⌜ r ≡ isBusy e k ⌝ }
-{
-    e.station.notready & may_be_busy(k)
-}
-
-// The state stays, and s2; the timer runs from the Busy reply.
-fn deferred(e: Endpoint, clock: u64, f: Fields) -> Endpoint
-    ensures { λ r. ⌜ r ≡ deferredOf e clock f ⌝ }
-{
-    let settings = e.settings;
-    let state = e.state;
-    let setup = e.setup;
-    let pending = setup.pending;
-    let s2 = setup.measured;
-    let station = e.station;
-    let value = e.value;
-    let timestamps = accepted(e, f.timestamp);
-    Endpoint {
-        settings: settings,
-        state: state,
-        since: clock,
-        timestamps: timestamps,
-        setup: Setup {
-            pending: pending,
-            measured: s2,
-            offset: setup.offset,
-        },
-        station: station,
-        value: value,
-    }
-}
-
-// What a request that is done leaves once it has its reply.
-fn answered(e: Endpoint, clock: u64, f: Fields) -> Endpoint
-    ensures { λ r. ⌜ r ≡ answeredOf e clock f ⌝ }
-{
-    let k = f.command;
-    if is_busy(e, k) {
-        return deferred(e, clock, f);
-    }
-    advanced(e, clock, f)
-}
-
-// What a request that is done leaves.
-fn taken(e: Endpoint, clock: u64, f: Fields) -> Endpoint
-    ensures { λ r. ⌜ r ≡ takenOf e clock f ⌝ }
-{
-    let k = f.command;
-    if is(k, Command::Disconnect) {
-        return ended_by(e, f.timestamp);
-    }
-    answered(e, clock, f)
 }
 
 // A request at a slave, with its reply.
@@ -386,68 +214,6 @@ fn reply_answer(e: Endpoint, f: Fields, body: &[u8]) -> Answer
         unequal: f.error | !equal,
         soon: false,
     })
-}
-
-fn confirmed(e: Endpoint, clock: u64) -> Endpoint
-    ensures { λ r. ⌜ r ≡ confirmedOf e clock ⌝ }
-{
-    let settings = e.settings;
-    let state = e.state;
-    let timestamps = e.timestamps;
-    let station = e.station;
-    let k = request_of(state);
-    let next = state_to(next_state(k, state), state);
-    let measured = measured_by(k, clock, e.setup.measured);
-    Endpoint {
-        settings: settings,
-        state: next,
-        since: clock,
-        timestamps: timestamps,
-        setup: Setup {
-            pending: Pending::Nothing,
-            measured: measured,
-            offset: e.setup.offset,
-        },
-        station: station,
-        value: no_value(),
-    }
-}
-
-// Nothing is pending, so that the same request is due again; the state stays, and m2; the timer runs from the Busy
-// reply.
-fn due_again(e: Endpoint, clock: u64) -> Endpoint
-    ensures { λ r. ⌜ r ≡ dueAgainOf e clock ⌝ }
-{
-    let settings = e.settings;
-    let stays = e.state;
-    let timestamps = e.timestamps;
-    let setup = e.setup;
-    let m2 = setup.measured;
-    let station = e.station;
-    let value = e.value;
-    Endpoint {
-        settings: settings,
-        state: stays,
-        since: clock,
-        timestamps: timestamps,
-        setup: Setup {
-            pending: Pending::Nothing,
-            measured: m2,
-            offset: setup.offset,
-        },
-        station: station,
-        value: value,
-    }
-}
-
-// What a reply that is done leaves.
-fn heard(e: Endpoint, clock: u64, f: Fields) -> Endpoint
-    ensures { λ r. ⌜ r ≡ heardOf e clock f ⌝ }
-{
-    if f.busy {
-        return due_again(e, clock);
-    }
-    confirmed(e, clock)
 }
 
 // A reply at a master.

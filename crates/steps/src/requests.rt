@@ -4,7 +4,7 @@ ghost use mathlib.Core.List.{_++_};
 ghost use Prim.Native.Nat.{_≤_};
 ghost use lib.ListN.{length};
 ghost use Rattle.frame.specs.Words.{wordBytes};
-ghost use Rattle.steps.specs.Frames.{setupData, widthOf, sendWidth, showWidth, timeOf, sentFields, baselineOf};
+ghost use Rattle.steps.specs.Frames.{setupData, widthOf, sendWidth, showWidth, sentFields, baselineOf};
 ghost use Rattle.steps.specs.Frames.{requestFields, refreshFields, disconnectFields, replyFields};
 ghost use Rattle.steps.specs.Says.{DataSays, WholeSays};
 ghost use Rattle.frame.specs.Writing.{isWritable};
@@ -12,9 +12,8 @@ ghost use mathlib.Core.Bool.{true};
 use endpoint::Endpoint;
 use endpoint::Settings;
 use endpoint::table::request_of;
-use endpoint::time::master_time;
 use endpoint::time::passed;
-use endpoint::time::timestamp;
+use endpoint::time::stamp_of;
 use frame::Command;
 use frame::Fields;
 use frame::Session;
@@ -107,20 +106,6 @@ pub(crate) fn show_width(s: Settings) -> usize
         return width(s.masterwords);
     }
     width(s.slavewords)
-}
-
-// The endpoint's time in the master's clock, to reckon an age by.
-pub(crate) fn time_of(e: Endpoint, clock: u64) -> u64
-    ensures { λ r. ⌜ r ≡ timeOf e clock ⌝ }
-{
-    master_time(e.settings.slave, e.setup.offset, clock)
-}
-
-// The same, as the timestamp of a frame to be sent.
-pub(crate) fn stamp_of(e: Endpoint, clock: u64) -> u64
-    ensures { λ r. ⌜ r ≡ timeOf e clock ⌝ }
-{
-    timestamp(e.settings.slave, e.setup.offset, clock)
 }
 
 // A frame that is no reply; application tells the direction.

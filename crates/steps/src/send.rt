@@ -2,15 +2,13 @@
 ghost use mathlib.Core.Path.{_≡_};
 ghost use lib.ListN.{length};
 ghost use Rattle.endpoint.specs.Answers.{firstOf};
-ghost use Rattle.steps.specs.Calls.{isNothing, mayRequest, sendFaults, requestedOf, refreshSentOf, sendOf};
+ghost use Rattle.steps.specs.Calls.{isNothing, mayRequest, sendFaults, sendOf};
 ghost use Rattle.steps.specs.Says.{withRoom, StepSays};
 use super::Stepped;
-use super::lifecycle::stamped;
 use super::lifecycle::stepped;
 use super::requests::refresh_fields;
 use super::requests::request_fields;
 use super::requests::send_width;
-use super::requests::stamp_of;
 use super::requests::write_setup;
 use super::requests::write_whole;
 use endpoint::Answer;
@@ -18,7 +16,6 @@ use endpoint::Endpoint;
 use endpoint::Faults;
 use endpoint::Pending;
 use endpoint::Reason;
-use endpoint::Setup;
 use endpoint::State;
 use endpoint::answers::first_of;
 use endpoint::answers::is_dropped;
@@ -26,6 +23,9 @@ use endpoint::table::is_setup;
 use endpoint::table::is_state;
 use endpoint::table::request_of;
 use endpoint::time::is_above;
+use endpoint::time::stamp_of;
+use transitions::by_call::refresh_sent;
+use transitions::by_call::requested;
 
 fn is_nothing(pending: Pending) -> bool
     ensures { λ r. ⌜ r ≡ isNothing pending ⌝ }
@@ -67,50 +67,6 @@ fn send_answer(e: Endpoint, clock: u64, width: usize) -> Answer
         unequal: false,
         soon: !above,
     })
-}
-
-fn requested(e: Endpoint, clock: u64) -> Endpoint
-    ensures { λ r. ⌜ r ≡ requestedOf e clock ⌝ }
-{
-    let settings = e.settings;
-    let state = e.state;
-    let station = e.station;
-    let value = e.value;
-    let stamp = stamp_of(e, clock);
-    let timestamps = stamped(e, stamp);
-    Endpoint {
-        settings: settings,
-        state: state,
-        since: clock,
-        timestamps: timestamps,
-        setup: Setup {
-            pending: Pending::Asked(stamp),
-            measured: e.setup.measured,
-            offset: e.setup.offset,
-        },
-        station: station,
-        value: value,
-    }
-}
-
-fn refresh_sent(e: Endpoint, clock: u64) -> Endpoint
-    ensures { λ r. ⌜ r ≡ refreshSentOf e clock ⌝ }
-{
-    let settings = e.settings;
-    let state = e.state;
-    let setup = e.setup;
-    let station = e.station;
-    let value = e.value;
-    let timestamps = stamped(e, stamp_of(e, clock));
-    Endpoint {
-        settings: settings,
-        state: state,
-        since: e.since,
-        timestamps: timestamps,
-        setup: setup,
-        station: station,
-        value: value,
-    }
 }
 
 // The next request, whatever value is lent; in Refresh the value.

@@ -8,7 +8,7 @@ use native.Mathlib.Numerals.{add-one}
 use native.Mathlib.Omega.{arith}
 use Rattle.device.specs.Tables.{freshUpTo}
 use Rattle.endpoint.specs.declared.Endpoint.{Endpoint}
-use Rattle.steps.specs.Calls.{freshOf}
+use Rattle.transitions.specs.ByCall.{freshOf}
 use Rattle.device.proofs.load.fresh_up_to.Statement.{statement}
 use Rattle.device.proofs.load.fresh_up_to.Tie as tie
 

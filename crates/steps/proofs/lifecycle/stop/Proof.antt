@@ -3,7 +3,8 @@ use borrow.Author.Needs.{needs}
 use mathlib.Core.Path.{_≡_}
 use Rattle.steps.proofs.Outcomes.{short, quiet, loud}
 use Rattle.steps.proofs.Whole.{disconnect-writable}
-use Rattle.steps.specs.Calls.{outcome, stopOf, stoppedOf}
+use Rattle.transitions.specs.ByCall.{stoppedOf}
+use Rattle.steps.specs.Calls.{outcome, stopOf}
 use Rattle.steps.specs.Frames.{nothing, written, setupData, disconnectFields}
 use Rattle.endpoint.specs.declared.Answer.the-variants.{Done}
 use Rattle.frame.specs.declared.Command.the-variants as K

@@ -5,7 +5,8 @@ use mathlib.Core.Path.{_≡_, sym, _∙_}
 use Rattle.steps.proofs.Firsts.{sent-width}
 use Rattle.steps.proofs.Outcomes.{short, quiet, loud}
 use Rattle.steps.proofs.Whole.{request-writable, refresh-writable, send-width-length}
-use Rattle.steps.specs.Calls.{outcome, sendOf, requestedOf, refreshSentOf}
+use Rattle.transitions.specs.ByCall.{requestedOf, refreshSentOf}
+use Rattle.steps.specs.Calls.{outcome, sendOf}
 use Rattle.steps.specs.Frames.{nothing, written, setupData, sendWidth, requestFields, refreshFields}
 use Rattle.endpoint.specs.Table.{requestOf}
 use Rattle.endpoint.specs.declared.Answer.the-variants.{Done}

@@ -1,0 +1,12 @@
+-- `transitions::by_call::requested` meets its contract.
+use borrow.Author.Needs.{needs}
+use Rattle.transitions.proofs.by_call.requested.Statement.{statement}
+use Rattle.transitions.proofs.by_call.requested.Tie as tie
+
+pub requested-spec : {M : Type 1} → statement M
+requested-spec =
+    tie.close
+    (tie.spec
+    (λ c κs. search needs)
+    (λ c κs. search needs)
+    (λ c. rw (c .stamped .ensures, c .before .stamp-of .ensures)))

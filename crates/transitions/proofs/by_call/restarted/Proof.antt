@@ -1,0 +1,11 @@
+-- `transitions::by_call::restarted` meets its contract.
+use borrow.Author.Needs.{needs}
+use Rattle.transitions.proofs.by_call.restarted.Statement.{statement}
+use Rattle.transitions.proofs.by_call.restarted.Tie as tie
+
+pub restarted-spec : {M : Type 1} → statement M
+restarted-spec =
+    tie.close
+    (tie.spec
+    (λ c κs. search needs)
+    (λ c. rw (c .no-value .ensures)))

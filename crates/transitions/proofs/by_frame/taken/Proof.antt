@@ -1,0 +1,14 @@
+-- `transitions::by_frame::taken` meets its contract.
+use borrow.Author.Needs.{needs}
+use Rattle.transitions.proofs.by_frame.taken.Statement.{statement}
+use Rattle.transitions.proofs.by_frame.taken.Tie as tie
+
+pub taken-spec : {M : Type 1} → statement M
+taken-spec =
+    tie.close
+    (tie.spec
+    (λ c κs. search needs)
+    (λ c κs. search needs)
+    (λ c. rw (c .ended-by .ensures, ← c .before .before .is .ensures, c .before .if1 .taken))
+    (λ c κs. search needs)
+    (λ c. rw (c .answered .ensures, ← c .before .before .is .ensures, c .before .if1 .left)))
