@@ -2,6 +2,7 @@
 use mathlib.Core.Path.{_≡_, refl, sym, ap, subst, _∙_}
 use mathlib.Core.Bool.{Bool, true, false, _&&_, _||_, not, cond}
 use mathlib.Core.List.{List, [], _∷_}
+use mathlib.Core.Logic.{_⊎_, inl, inr}
 use Prim.Native.Nat.{ℕ, suc}
 use native.Mathlib.Omega.{arith}
 use lib.Dec.{eqb, leb}
@@ -28,6 +29,7 @@ use Rattle.endpoint.specs.Answers.{isDone}
 use Rattle.endpoint.specs.Time.{isExpired, afterTick}
 use Rattle.steps.specs.Frames.{Written, nothing}
 use Rattle.steps.specs.Calls.{Outcome, isFailSafe, shownOf}
+use Rattle.steps.specs.Deliveries.{deliverOf}
 use Rattle.steps.specs.Steps as S
 use Rattle.steps.specs.Steps.{Act, start, stop, restart, setNotReady}
 use Rattle.steps.proofs.Dispatch.{cond-true, cond-false}
@@ -47,20 +49,13 @@ use Rattle.devices.proofs.Tables.{Like, like-tick, like-at, ticked-at, 
 use Rattle.devices.proofs.Loaded.{Table}
 use Rattle.devices.proofs.Logs.{bytes-of, toLog, AllGood, no-more, last-of}
 use Rattle.devices.proofs.Idle.{call-expired, call-timely, tick-expired, tick-timely}
+use Rattle.devices.proofs.Reaching as A
+use Rattle.devices.proofs.Reaching.{Arrival, arrival, lends, act-in}
 use Rattle.devices.proofs.OneCall.{empty, not-logged, Matches, clocked, only-clock, EntryCall, entry-call}
 
 and-false : (b : Bool) → (b && false) ≡ false
 and-false true = refl
 and-false false = refl
-
--- refused by 1, 2 or what stands after them
-not-done : (last : Timestamp) (t : ℕ) (short : Bool) (r : Reason) → isDone (admit last t short (Dropped r)) ≡ false
-not-done last t short r = go (isReading last t) short
-  where
-    go : (b s : Bool) → isDone (cond (not b) (Dropped R.Clock) (cond s (Dropped R.Buffer) (Dropped r))) ≡ false
-    go true true = refl
-    go true false = refl
-    go false s = refl
 
 -- zero bytes are no S-Refresh
 no-refresh : (cid : ℕ) (s : List ℕ) → eqb (length s) 0 ≡ true → isRefreshOf cid s ≡ false
@@ -85,21 +80,6 @@ show-call e t =
 flip : (b : Bool) (x : L.Show) → cond {A = List L.Show} (not b) (x ∷ []) [] ≡ cond b [] (x ∷ [])
 flip true x = refl
 flip false x = refl
-
--- whether an output that is too short was lent: only a stop is lent one
-lends : ℕ → Act → Bool
-lends room start = false
-lends room stop = isShort room
-lends room restart = false
-lends room (setNotReady b) = false
-
-act-in : (d : Device) (t room : ℕ) (a : Act) (k : ℕ)
-    → actIn d t room a k ≡ onEntry (λ e. S.actOf e t a) d t (lends room a) k
-unfolding lends
-act-in d t room start k = refl
-act-in d t room stop k = refl
-act-in d t room restart k = refl
-act-in d t room (setNotReady b) k = refl
 
 module _ (cid : ℕ) (slave : Bool) (m : ℕ) (d₀ : Device) (n : ℕ) (T : Table d₀ cid n) (d : Device) (same : Like d d₀)
     (t room : ℕ) (reading : isReading (d .last) t ≡ true) (log : List L.Entry) (good : AllGood cid log) (took : ℕ)
@@ -218,27 +198,7 @@ module _ (cid : ℕ) (slave : Bool) (m : ℕ) (d₀ : Device) (n : ℕ) (T : Tab
         (ap (λ (r : Result). cond (isDone (r .answer) && isRefreshOf cid s) (lastOf s (toLog log)) took) q
         ∙ ap (λ (b : Bool). cond b (lastOf s (toLog log)) took) h)
 
-    -- with the number r, or one before it
-    refusing : (s : List ℕ) (r : Reason)
-        → callIn d t room (deliver s) ≡ refusedOf (admit (d .last) t (isShort room) (Dropped r)) t 0 d
-        → Match (deliver s)
-    refusing s r q =
-        let a = admit (d .last) t (isShort room) (Dropped r) in
-        stray s a (refusedEntry a 0)
-        (ap (λ (b : Bool). b && isRefreshOf cid s) (not-done (d .last) t (isShort room) r)) q
-
-    nothing-arrived : (s : List ℕ) → eqb (length s) 0 ≡ true → Match (deliver s)
-    nothing-arrived s z =
-        let a = admit (d .last) t (isShort room) Done in
-        stray s a Absent (ap (λ (b : Bool). isDone a && b) (no-refresh cid s z) ∙ and-false (isDone a))
-        (cond-true (eqb (length s) 0) (emptyCycle d t (isShort room)) (byReading d t room s (readingOf s)) z)
-
-    -- what arrived, as the reader takes it
-    arrived : (s : List ℕ) → eqb (length s) 0 ≡ false
-        → callIn d t room (deliver s) ≡ byReading d t room s (readingOf s)
-    arrived s z = cond-false (eqb (length s) 0) (emptyCycle d t (isShort room)) (byReading d t room s (readingOf s)) z
-
-    module _ (s : List ℕ) (filled : eqb (length s) 0 ≡ false) (bytes : handsBytes (deliver s) ≡ true)
+    module _ (s : List ℕ) (bytes : handsBytes (deliver s) ≡ true)
         (may : mayDeliver cid (toLog log) (deliver s) ≡ true)
         (f : Fields) (from to : ℕ) (is-frame : readingOf s ≡ Frame f from to) where
       back : Writable f (slice from to s) × (frameBytes f (slice from to s) ≡ s)
@@ -262,12 +222,14 @@ module _ (cid : ℕ) (slave : Bool) (m : ℕ) (d₀ : Device) (n : ℕ) (T : Tab
       last-place = ap (λ (x : List ℕ). lastOf x (toLog log)) (sym (back .1))
           ∙ last-of cid f (slice from to s) (back .0) log good
 
-      delivering-to : (k : ℕ) → entryOf (f .connection) (d .count) (d .endpoints) ≡ At k → Match (deliver s)
-      delivering-to k h =
+      delivering-to : (k : ℕ) → entryOf (f .connection) (d .count) (d .endpoints) ≡ At k
+          → callIn d t room (deliver s) ≡ onEntry (λ e. deliverOf e t f (slice from to s)) d t (isShort room) k
+          → Match (deliver s)
+      delivering-to k h i =
           let body = slice from to s in
           let last = lastOf s (toLog log) in
           on-entry (deliver s) (S.deliver f body) (isShort room) k (record {
-            is = arrived s filled ∙ ap (byReading d t room s) is-frame ∙ ap (byEntry d t room f body) h;
+            is = i;
             bytes = back .0 .typed .bytes;
             lent = refl;
             frames = λ w. refl;
@@ -287,23 +249,18 @@ module _ (cid : ℕ) (slave : Bool) (m : ℕ) (d₀ : Device) (n : ℕ) (T : Tab
                 (ap (isOf cid) is-frame ∙ eq-eqb (f .connection) cid (its-frame k h q))) ∙ may;
           })
 
-      delivering-frame : (x : Entry) → entryOf (f .connection) (d .count) (d .endpoints) ≡ x → Match (deliver s)
-      delivering-frame Absent h =
-          refusing s R.Unknown
-          (arrived s filled ∙ ap (byReading d t room s) is-frame ∙ ap (byEntry d t room f (slice from to s)) h)
-      delivering-frame (At k) h = delivering-to k h
-
-    reading-of : (s : List ℕ) → eqb (length s) 0 ≡ false → handsBytes (deliver s) ≡ true
-        → mayDeliver cid (toLog log) (deliver s) ≡ true → (r : Reading) → readingOf s ≡ r → Match (deliver s)
-    reading-of s filled bytes may (Refused fault) h =
-        refusing s (reasonOf fault) (arrived s filled ∙ ap (byReading d t room s) h)
-    reading-of s filled bytes may (Frame f from to) h =
-        delivering-frame s filled bytes may f from to h (entryOf (f .connection) (d .count) (d .endpoints)) refl
-
     delivering : (s : List ℕ) → handsBytes (deliver s) ≡ true → mayDeliver cid (toLog log) (deliver s) ≡ true
         → Match (deliver s)
-    delivering s bytes may =
-        bcase (eqb (length s) 0) (nothing-arrived s) (λ filled. reading-of s filled bytes may (readingOf s) refl)
+    delivering s bytes may = go (arrival d t room s)
+      where
+        go : Arrival d t room s → Match (deliver s)
+        go (A.stray a x w q) = stray s a x (no-done a w) q
+          where
+            no-done : (b : Answer) → (isDone b ≡ false) ⊎ (eqb (length s) 0 ≡ true)
+                → (isDone b && isRefreshOf cid s) ≡ false
+            no-done b (inl n) = ap (λ (i : Bool). i && isRefreshOf cid s) n
+            no-done b (inr z) = ap (λ (i : Bool). isDone b && i) (no-refresh cid s z) ∙ and-false (isDone b)
+        go (A.framed f from to k i h q) = delivering-to s bytes may f from to i k h q
 
     pub matches : (call : Call) → handsBytes call ≡ true → mayDeliver cid (toLog log) call ≡ true
         → Match call

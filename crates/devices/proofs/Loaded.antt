@@ -7,7 +7,7 @@ use native.Mathlib.Nat.{not-suc-le-zero}
 use native.Mathlib.Omega.{arith}
 use native.Mathlib.Decide.{decLt}
 use lib.Dec.{eqb, ltb, leb}
-use lib.ListN.{length, getD, length-set, length-replicate}
+use lib.ListN.{length, getD, replicate, length-set, length-replicate}
 use lib.Seq.{getD-set-same, getD-set-other}
 use borrow.Author.Tests.{leb-true, eqb-false, not-true}
 use Rattle.frame.proofs.Alike.{and-left, and-right}
@@ -19,6 +19,7 @@ use Rattle.endpoint.specs.declared.Answer.the-variants.{Done, Dropped}
 use Rattle.endpoint.specs.Answers.{isDone}
 use Rattle.transitions.specs.ByCall.{freshOf}
 use Rattle.steps.specs.Laws.{SettingsFit}
+use Rattle.steps.proofs.Keeps.{bcase}
 use Rattle.settings.specs.Words.{restOf, isTicks, hasKinds}
 use Rattle.settings.specs.Lists.{wordOf, connectionAt, settingsAt, isConnectionAt, isNewAt, areConnections, countOf}
 use Rattle.settings.specs.Lists.{isList}
@@ -109,6 +110,11 @@ unfolding freshUpTo
 fresh-length ws zero = length-replicate 8 (freshOf noSettings)
 fresh-length ws (suc n) = length-set (freshUpTo ws n) n (freshOf (settingsAt ws n)) ∙ fresh-length ws n
 
+getD-same : {A : Type 0} (n i : ℕ) (a : A) → getD (replicate n a) i a ≡ a
+getD-same zero i a = refl
+getD-same (suc n) zero a = refl
+getD-same (suc n) (suc i) a = getD-same n i a
+
 fresh-at : (ws : List ℕ) (n i : ℕ) → n ≤ 8 → i < n → endpointAt (freshUpTo ws n) i ≡ freshOf (settingsAt ws i)
 unfolding freshUpTo endpointAt
 fresh-at ws zero i h k = absurd (not-suc-le-zero k)
@@ -123,6 +129,22 @@ fresh-at ws (suc n) i h k =
           ∙ ap (λ (j : ℕ). freshOf (settingsAt ws j)) e
     ]
 
+-- past the connections
+fresh-rest : (ws : List ℕ) (n i : ℕ) → n ≤ i → endpointAt (freshUpTo ws n) i ≡ freshOf noSettings
+unfolding freshUpTo endpointAt
+fresh-rest ws zero i h = getD-same 8 i (freshOf noSettings)
+fresh-rest ws (suc n) i h =
+    getD-set-other (freshUpTo ws n) n i (freshOf (settingsAt ws n)) (freshOf noSettings)
+    (λ e. absurd (omega (arith, e))) ∙ fresh-rest ws n i (omega arith)
+
+-- no place has written a request
+fresh-none : (ws : List ℕ) (n i : ℕ) → n ≤ 8 → endpointAt (freshUpTo ws n) i .setup .requests ≡ 0
+fresh-none ws n i h =
+    elim (decLt i n) [
+      | yes g ↦ ap (λ (e : Endpoint). e .setup .requests) (fresh-at ws n i h g)
+      | no g ↦ ap (λ (e : Endpoint). e .setup .requests) (fresh-rest ws n i (omega arith))
+    ]
+
 -- ---- a device that was loaded with answer 0
 chosen : (b : Bool) (x y : Loaded) → isDone (y .answer) ≡ false → cond b x y .answer ≡ Done → b ≡ true
 chosen true x y n h = refl
@@ -131,16 +153,20 @@ chosen false x y n h = absurd (false≢true (sym n ∙ ap isDone h))
 is-list : (ws : List ℕ) → loadedOf ws .answer ≡ Done → isList ws ≡ true
 is-list ws h = chosen (isList ws) _ _ refl h
 
+-- eight places, and settings whose numbers fit into the words of setup requests
+pub record Sound (d : Device) : Type 0 where
+  pub length8 : length (d .endpoints) ≡ 8
+  pub fits : (i : ℕ) → i < d .count → i < 8 → SettingsFit (endpointAt (d .endpoints) i .settings)
+
 -- what holds of the CID's entry n
 pub record Table (d : Device) (cid n : ℕ) : Type 0 where
   pub entry : entryOf cid (d .count) (d .endpoints) ≡ At n
-  pub length8 : length (d .endpoints) ≡ 8
+  pub sound : Sound d
   pub counted : n < d .count
   pub within : n < 8
   pub fresh : endpointAt (d .endpoints) n ≡ freshOf (endpointAt (d .endpoints) n .settings)
   pub ticks : Ticks (endpointAt (d .endpoints) n .settings)
   pub has : endpointAt (d .endpoints) n .settings .connection ≡ cid
-  pub fits : (i : ℕ) → i < d .count → i < 8 → SettingsFit (endpointAt (d .endpoints) i .settings)
   pub others : (i : ℕ) → i < d .count → i < 8 → (i ≡ n → ⊥) → endpointAt (d .endpoints) i .settings .connection ≡ cid
       → ⊥
 
@@ -155,6 +181,14 @@ tableOf ws = record { last = Never; count = countOf ws; endpoints = freshUpTo ws
 same-cid : (ws : List ℕ) (i : ℕ) → settingsAt ws i .connection ≡ connectionAt ws i
 unfolding settingsAt connectionAt
 same-cid ws i = refl
+
+table-sound : (ws : List ℕ) → isList ws ≡ true → Sound (tableOf ws)
+unfolding tableOf
+table-sound ws l = record {
+  length8 = fresh-length ws (countOf ws);
+  fits = λ i k k8. subst SettingsFit
+      (sym (ap (λ (e : Endpoint). e .settings) (fresh-at ws (countOf ws) i (count-le ws l) k))) (settings-fit ws i);
+}
 
 loaded-table : (ws : List ℕ) (cid n : ℕ) → isList ws ≡ true
     → entryOf cid (countOf ws) (freshUpTo ws (countOf ws)) ≡ At n
@@ -172,14 +206,13 @@ loaded-table ws cid n l h =
     λ i k. ap (λ (s : Settings). s .connection) (set-at i k) ∙ same-cid ws i in
     record {
       entry = h;
-      length8 = fresh-length ws (countOf ws);
+      sound = table-sound ws l;
       counted = f .counted;
       within = let z = f .counted in omega arith;
       fresh = at n (f .counted) ∙ ap freshOf (sym (set-at n (f .counted)));
       ticks = subst Ticks (sym (set-at n (f .counted)))
           (in-ranges ws n (are-at ws (countOf ws) n (are-connections ws l) (f .counted) .0));
       has = f .has;
-      fits = λ i k k8. subst SettingsFit (sym (set-at i k)) (settings-fit ws i);
       others = λ i k k8 ne q. unique ws (countOf ws) i n (are-connections ws l) k (f .counted) ne
           (sym (cid-at i k) ∙ q ∙ sym (f .has) ∙ cid-at n (f .counted));
     }
@@ -199,3 +232,33 @@ loaded ws cid n d h =
     let q = loaded-is ws l in
     subst (λ (x : Device). Table x cid n) (sym q)
     (loaded-table ws cid n l (ap (λ (x : Device). entryOf cid (x .count) (x .endpoints)) (sym q) ∙ h))
+
+-- ---- a device that was loaded, with answer 0 or 18, or never
+pub unloaded-sound : Sound unloaded
+unfolding unloaded
+unloaded-sound = record {
+  length8 = length-replicate 8 (freshOf noSettings);
+  fits = λ i k. absurd (not-suc-le-zero k);
+}
+
+pub unloaded-none : (i : ℕ) → endpointAt (unloaded .endpoints) i .setup .requests ≡ 0
+unfolding unloaded endpointAt
+unloaded-none i = ap (λ (e : Endpoint). e .setup .requests) (getD-same 8 i (freshOf noSettings))
+
+not-loaded : (ws : List ℕ) → isList ws ≡ false → loadedOf ws .device ≡ unloaded
+unfolding tableOf
+not-loaded ws h =
+    ap (λ (b : Bool). cond {A = Loaded} b (record { answer = Done; device = tableOf ws })
+    (record { answer = Dropped R.Settings; device = unloaded }) .device) h
+
+pub loaded-sound : (ws : List ℕ) → Sound (loadedOf ws .device)
+loaded-sound ws =
+    bcase (isList ws) (λ l. subst Sound (sym (loaded-is ws l)) (table-sound ws l))
+    (λ l. subst Sound (sym (not-loaded ws l)) unloaded-sound)
+
+pub loaded-none : (ws : List ℕ) (i : ℕ) → endpointAt (loadedOf ws .device .endpoints) i .setup .requests ≡ 0
+unfolding tableOf
+loaded-none ws i =
+    let at : Device → ℕ = λ d. endpointAt (d .endpoints) i .setup .requests in
+    bcase (isList ws) (λ l. ap at (loaded-is ws l) ∙ fresh-none ws (countOf ws) i (count-le ws l))
+    (λ l. ap at (not-loaded ws l) ∙ unloaded-none i)

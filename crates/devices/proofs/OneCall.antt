@@ -39,17 +39,7 @@ use Rattle.devices.proofs.Tables.{placed-there, like-placed}
 use Rattle.devices.proofs.Loaded.{Table}
 use Rattle.devices.proofs.Logs.{frame-of, toSent, toLog, AllGood, no-more, and-more}
 use Rattle.devices.proofs.Idle.{idle-at, call-timely}
-
--- ---- what a call on an entry that is not refused before its own step tells
-tells : (r s i x : Bool)
-    → isDone (cond (not r) (Dropped R.Clock) (cond s (Dropped R.Buffer)
-    (cond (not i) (Dropped R.Entry) (cond x (Ended R.Expired) Done)))) ≡ true
-    → (i ≡ true) × (x ≡ false)
-tells false s i x h = absurd (false≢true h)
-tells true true i x h = absurd (false≢true h)
-tells true false false x h = absurd (false≢true h)
-tells true false true true h = absurd (false≢true h)
-tells true false true false h = (refl, refl)
+use Rattle.devices.proofs.Reaching.{does, not-reached, reached, reached-tells, reached-like}
 
 -- ---- the frame that a call wrote
 pub empty : (cid : ℕ) → isFrameOf cid [] ≡ false
@@ -173,16 +163,11 @@ module _ (cid : ℕ) (slave : Bool) (m : ℕ) (d₀ : Device) (n : ℕ) (T : Tab
     pub may : k ≡ n → L.mayDeliver log by ≡ true
 
   module _ (call : Call) (by : S.Call) (short : Bool) where
-    -- what the call does to the endpoint at k
-    abbrev does : ℕ → Outcome
-    does k = S.stepOf (endpointAt (d .endpoints) k) t by
-
     -- refused before the connection's own step
     refused : (k : ℕ) → EntryCall call by k short → isDone (beforeEntry d t short k) ≡ false → Match call
     refused k E h =
         let a = beforeEntry d t short k in
-        let q : callIn d t room call ≡ refusedOf a t k d = E .is
-        ∙ cond-false (isDone a) (actedOf (does k) t k d) (refusedOf a t k d) h in
+        let q : callIn d t room call ≡ refusedOf a t k d = E .is ∙ not-reached d t by short k h in
         only-clock call (ap (λ (r : Result). r .device) q ∙ clocked)
         (ap (λ (r : Result). isFrameOf cid (frameBy call (r .writes))) q ∙ ap (isFrameOf cid) (E .frames [])
         ∙ empty cid)
@@ -191,13 +176,15 @@ module _ (cid : ℕ) (slave : Bool) (m : ℕ) (d₀ : Device) (n : ℕ) (T : Tab
         ∙ E .took-none)
 
     module _ (k : ℕ) (E : EntryCall call by k short) (h : isDone (beforeEntry d t short k) ≡ true) where
-      acted : callIn d t room call ≡ actedOf (does k) t k d
-      acted = E .is
-          ∙ cond-true (isDone (beforeEntry d t short k)) (actedOf (does k) t k d)
-          (refusedOf (beforeEntry d t short k) t k d) h
+      -- what the call does to the endpoint at k
+      abbrev does-there : Outcome
+      does-there = does d t by short k
+
+      acted : callIn d t room call ≡ actedOf does-there t k d
+      acted = E .is ∙ reached d t by short k h
 
       told : (isEntry (d .count) k ≡ true) × (isExpired (endpointAt (d .endpoints) k) t ≡ false)
-      told = tells (isReading (d .last) t) short (isEntry (d .count) k) (isExpired (endpointAt (d .endpoints) k) t) h
+      told = reached-tells d t by short k h
 
       counted : k < d₀ .count
       counted = subst (λ (c : ℕ). k < c) (same .counts)
@@ -207,24 +194,22 @@ module _ (cid : ℕ) (slave : Bool) (m : ℕ) (d₀ : Device) (n : ℕ) (T : Tab
       small = ltb-true k 8 (and-right (ltb k (d .count)) (ltb k 8) (told .0))
 
       fits : SettingsFit (endpointAt (d .endpoints) k .settings)
-      fits = subst SettingsFit (sym (like-at same k)) (T .fits k counted small)
+      fits = subst SettingsFit (sym (like-at same k)) (T .sound .fits k counted small)
 
-      its-typed : IsTyped (does k .writes)
+      its-typed : IsTyped (does-there .writes)
       its-typed = step-laws .typed (endpointAt (d .endpoints) k) t by fits (E .bytes)
 
       acted-like : Like (callIn d t room call .device) d
-      acted-like = subst (λ (r : Result). Like (r .device) d) (sym acted)
-          (like-trans (like-placed (clockStep t d) k (does k .endpoint)
-          (step-laws .keeps (endpointAt (d .endpoints) k) t by ∙ sym (like-at (like-tick d t) k))) (like-tick d t))
+      acted-like = subst (λ (r : Result). Like (r .device) d) (sym acted) (reached-like d t by short k)
 
       -- on another connection
       other : (k ≡ n → ⊥) → Match call
       other ne =
           let e = endpointAt (d .endpoints) k in
-          let w = does k .writes in
+          let w = does-there .writes in
           idle call
           (ap (λ (r : Result). endpointAt (r .device .endpoints) n) acted
-          ∙ placed-there (clockStep t d) k n (does k .endpoint) (λ q. ne (sym q)) ∙ ticked-at d t n)
+          ∙ placed-there (clockStep t d) k n (does-there .endpoint) (λ q. ne (sym q)) ∙ ticked-at d t n)
           (ap (λ (r : Result). isFrameOf cid (frameBy call (r .writes))) acted
           ∙ ap (isFrameOf cid) (E .frames (bytesOf w))
           ∙ other-frame cid e w (step-laws .carries e t by) its-typed
@@ -235,12 +220,12 @@ module _ (cid : ℕ) (slave : Bool) (m : ℕ) (d₀ : Device) (n : ℕ) (T : Tab
     own : (E : EntryCall call by n short) → isDone (beforeEntry d t short n) ≡ true → Match call
     own E h =
         let e = endpointAt (d .endpoints) n in
-        let o = does n in
+        let o = does d t by short n in
         let q = acted n E h in
         let p : L.callOf e t by ≡ o = call-timely e t by (told n E h .1) in
         let c : e .settings .connection ≡ cid = ap (λ (s : Settings). s .connection) (like-at same n) ∙ T .has in
         let l : n < length (clockStep t d .endpoints) =
-        subst (λ (i : ℕ). n < i) (sym (like-length (like-tick d t) ∙ like-length same ∙ T .length8)) (T .within) in
+        subst (λ (i : ℕ). n < i) (sym (like-length (like-tick d t) ∙ like-length same ∙ T .sound .length8)) (T .within) in
         record {
           by = by;
           endpoint = ap (λ (r : Result). endpointAt (r .device .endpoints) n) q

@@ -15,15 +15,16 @@ use Rattle.endpoint.specs.declared.Settings.{Settings}
 use Rattle.endpoint.specs.declared.State.{State}
 use Rattle.endpoint.specs.declared.State.the-variants.{Close, EstablishPending, Establish, ParamVerify, RefreshPending}
 use Rattle.endpoint.specs.declared.State.the-variants.{Refresh, Terminate}
-use Rattle.endpoint.specs.declared.Timestamp.the-variants.{At}
+use Rattle.endpoint.specs.declared.Timestamp.the-variants.{Never, At}
 use Rattle.endpoint.specs.declared.Pending.the-variants.{Nothing, Asked}
 use Rattle.endpoint.specs.declared.Endpoint.{Endpoint}
 use Rattle.endpoint.specs.Answers.{numberOf}
 use Rattle.endpoint.specs.Table.{stateNumber}
-use Rattle.endpoint.specs.Updates.{inState, timedFrom, withSetup, withPending, withNotReady}
+use Rattle.endpoint.specs.Updates.{inState, timedFrom, withTimestamps, withSetup, withPending, withRequests}
+use Rattle.endpoint.specs.Updates.{withNotReady}
 use Rattle.transitions.specs.ByCall.{freshOf}
 use Rattle.steps.specs.Frames.{Written, nothing, written, setupData, sentFields, ackFields, refreshFields, replyFields}
-use Rattle.steps.specs.Calls.{Outcome, sendOf}
+use Rattle.steps.specs.Calls.{Outcome, startOf, restartOf, sendOf, stopOf}
 use Rattle.steps.specs.Deliveries.{deliverOf}
 use Rattle.settings.specs.Words.{settingsOf}
 use Rattle.settings.specs.Lists.{settingsAt}
@@ -49,7 +50,7 @@ ageless = settingsOf 0x0102 0x0103 0x021 100 50 0 7
 -- an endpoint in a state since some reading, with what it has measured and its ts_offset
 abbrev endpointIn : Settings → State → ℕ → ℕ → ℕ → Endpoint
 endpointIn s state since measured offset =
-    inState state (timedFrom since (withSetup Nothing measured offset (freshOf s)))
+    inState state (timedFrom since (withSetup Nothing measured offset 0 (freshOf s)))
 
 abbrev word : List ℕ
 word = 0 ∷ 0 ∷ 0 ∷ 1 ∷ []
@@ -123,6 +124,15 @@ dueAgain = busyReply false (0 ∷ 0 ∷ 0 ∷ 0 ∷ []) .endpoint
 abbrev busyForm : Command → ℕ
 busyForm k = Reader.numberOf (Reader.readingOf (frameBytes (ackFields k true false cid 10) word))
 
+-- a master since 1,000 in a state, with that last timestamp sent, after so many requests; its send with one word lent
+abbrev after : ℕ → State → Endpoint
+after n state =
+    withRequests n
+    (withTimestamps (record { sent = At 1000; accepted = Never }) (endpointIn masterSettings state 1000 5 0))
+
+abbrev sentAfter : ℕ → State → ℕ → Outcome
+sentAfter n state t = sendOf (after n state) t word
+
 pub record Case : Type 0 where
   pub given : ℕ
   pub stated : ℕ
@@ -189,6 +199,25 @@ cases =
     ∷ case (busyForm K.VerifyStation) 0
     ∷ case (busyForm K.Connect) 7
     ∷ case (busyForm K.RefreshGo) 7
+    -- request 45 is written and counted; request 46 is 19: nothing is written, and the connection ends
+    ∷ case (controlIn (sentAfter 44 EstablishPending 1010 .writes)) 0x01000000
+    ∷ case (sentAfter 44 EstablishPending 1010 .endpoint .setup .requests) 45
+    ∷ case (numberOf (sentAfter 45 EstablishPending 1010 .answer)) 19
+    ∷ case (controlIn (sentAfter 45 EstablishPending 1010 .writes)) 0
+    ∷ case (stateNumber (sentAfter 45 EstablishPending 1010 .endpoint .state)) (stateNumber Terminate)
+    -- 19 before 17, and after 11; a count that no call leaves
+    ∷ case (numberOf (sentAfter 44 EstablishPending 1000 .answer)) 17
+    ∷ case (numberOf (sentAfter 45 EstablishPending 1000 .answer)) 19
+    ∷ case (numberOf (sendOf (withPending (Asked 1000) (after 45 EstablishPending)) 1010 word .answer)) 11
+    ∷ case (numberOf (sentAfter 255 EstablishPending 1010 .answer)) 19
+    -- S-Refresh and S-Disconnect are no requests
+    ∷ case (numberOf (sentAfter 45 Refresh 1010 .answer)) 0
+    ∷ case (sentAfter 45 Refresh 1010 .endpoint .setup .requests) 45
+    ∷ case (controlIn (stopOf (after 45 EstablishPending) 1010 .writes)) 0xF9000000
+    ∷ case (stopOf (after 44 EstablishPending) 1010 .endpoint .setup .requests) 44
+    -- a restart keeps the count, a start begins it anew
+    ∷ case (restartOf (after 45 Terminate) .endpoint .setup .requests) 45
+    ∷ case (startOf (after 45 Close) 1010 .endpoint .setup .requests) 0
     ∷ []
 
 -- each row gives what the paper states

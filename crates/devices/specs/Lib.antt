@@ -1,4 +1,5 @@
 -- Two devices and the bytes between them, in reading order.
 pub mod Runs
 pub mod Demand
+pub mod Requests
 pub mod Cases

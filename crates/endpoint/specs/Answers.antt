@@ -27,6 +27,7 @@ reasonNumber R.Late = 15
 reasonNumber R.Unequal = 16
 reasonNumber R.TooSoon = 17
 reasonNumber R.Settings = 18
+reasonNumber R.Exhausted = 19
 
 -- document 01's number of an answer, 0 for done
 abbrev pub numberOf : Answer → ℕ
@@ -34,26 +35,44 @@ numberOf Done = 0
 numberOf (Dropped r) = reasonNumber r
 numberOf (Ended r) = reasonNumber r
 
--- what can refuse a user's call: 11, 12 and 17
-abbrev pub callFaults : Bool → Bool → Bool → Faults
-callFaults turn width soon =
-    record { turn = turn; width = width; repeat = false; ahead = false; late = false; unequal = false; soon = soon }
+-- what can refuse a user's call: 11, 12, 19 and 17
+abbrev pub callFaults : Bool → Bool → Bool → Bool → Faults
+callFaults turn width exhausted soon = record {
+  turn = turn;
+  width = width;
+  exhausted = exhausted;
+  repeat = false;
+  ahead = false;
+  late = false;
+  unequal = false;
+  soon = soon;
+}
 
 -- what can refuse a setup frame: 11, 12, 13 and 16
 abbrev pub setupFaults : Bool → Bool → Bool → Bool → Faults
-setupFaults turn width repeat unequal =
-    record { turn = turn; width = width; repeat = repeat; ahead = false; late = false; unequal = unequal; soon = false }
+setupFaults turn width repeat unequal = record {
+  turn = turn;
+  width = width;
+  exhausted = false;
+  repeat = repeat;
+  ahead = false;
+  late = false;
+  unequal = unequal;
+  soon = false;
+}
 
--- the first that applies, in the order of the numbers; 15 and 16 end the connection
+-- the first that applies, in the order of the numbers, but for 19, which comes after 12; 15, 16 and 19 end the
+-- connection
 abbrev pub firstOf : Faults → Answer
 firstOf f =
     cond (f .turn) (Dropped R.Turn)
     (cond (f .width) (Dropped R.Width)
+    (cond (f .exhausted) (Ended R.Exhausted)
     (cond (f .repeat) (Dropped R.Repeat)
     (cond (f .ahead) (Dropped R.Ahead)
     (cond (f .late) (Ended R.Late)
     (cond (f .unequal) (Ended R.Unequal)
-    (cond (f .soon) (Dropped R.TooSoon) Done))))))
+    (cond (f .soon) (Dropped R.TooSoon) Done)))))))
 
 abbrev pub isDone : Answer → Bool
 isDone Done = true

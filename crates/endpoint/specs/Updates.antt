@@ -31,13 +31,17 @@ timedFrom t e = endpointOf (e .settings) (e .state) t (e .timestamps) (e .setup)
 abbrev pub withTimestamps : Timestamps → Endpoint → Endpoint
 withTimestamps ts e = endpointOf (e .settings) (e .state) (e .since) ts (e .setup) (e .station) (e .value)
 
-abbrev pub withSetup : Pending → ℕ → ℕ → Endpoint → Endpoint
-withSetup pending measured offset e =
+abbrev pub withSetup : Pending → ℕ → ℕ → ℕ → Endpoint → Endpoint
+withSetup pending measured offset requests e =
     endpointOf (e .settings) (e .state) (e .since) (e .timestamps)
-    (record { pending = pending; measured = measured; offset = offset }) (e .station) (e .value)
+    (record { pending = pending; measured = measured; offset = offset; requests = requests }) (e .station) (e .value)
 
 abbrev pub withPending : Pending → Endpoint → Endpoint
-withPending p e = withSetup p (e .setup .measured) (e .setup .offset) e
+withPending p e = withSetup p (e .setup .measured) (e .setup .offset) (e .setup .requests) e
+
+-- so many setup requests have been written since the last start or loading
+abbrev pub withRequests : ℕ → Endpoint → Endpoint
+withRequests n e = withSetup (e .setup .pending) (e .setup .measured) (e .setup .offset) n e
 
 abbrev pub holding : Value → Endpoint → Endpoint
 holding v e = endpointOf (e .settings) (e .state) (e .since) (e .timestamps) (e .setup) (e .station) v

@@ -28,6 +28,7 @@ pub fn reason_number(reason: Reason) -> u8
         Reason::Unequal => 16,
         Reason::TooSoon => 17,
         Reason::Settings => 18,
+        Reason::Exhausted => 19,
     }
 }
 
@@ -42,7 +43,7 @@ pub fn number(answer: Answer) -> u8
     }
 }
 
-// The first that applies, in the order of the numbers.
+// The first that applies, in the order of the numbers, but for 19, which comes after 12.
 pub fn first_of(f: Faults) -> Answer
     ensures { λ r. ⌜ r ≡ firstOf f ⌝ }
 {
@@ -51,6 +52,9 @@ pub fn first_of(f: Faults) -> Answer
     }
     if f.width {
         return Answer::Dropped(Reason::Width);
+    }
+    if f.exhausted {
+        return Answer::Ended(Reason::Exhausted);
     }
     if f.repeat {
         return Answer::Dropped(Reason::Repeat);

@@ -54,11 +54,13 @@ pub enum Pending {
     Asked(u64),
 }
 
-// Setup. Measured: s2 at a slave, m2 at a master. Offset: a slave's ts_offset.
+// Setup. Measured: s2 at a slave, m2 at a master. Offset: a slave's ts_offset. Requests: how many setup requests a
+// master has written since its last start or loading, S-Disconnect aside.
 pub struct Setup {
     pub pending: Pending,
     pub measured: u64,
     pub offset: u64,
+    pub requests: u8,
 }
 
 // What the station's user has set, unset after loading; it survives restart and Terminate. A master's is of no account.
@@ -122,6 +124,8 @@ pub enum Reason {
     TooSoon,
     // 18, settings
     Settings,
+    // 19, exhausted (document 02)
+    Exhausted,
 }
 
 // Done; refused; or refused with the connection ended.
@@ -131,10 +135,11 @@ pub enum Answer {
     Ended(Reason),
 }
 
-// What applies of the refusals 11 to 17.
+// What applies of the refusals 11 to 17 and 19, in the order in which they are given.
 pub struct Faults {
     pub turn: bool,
     pub width: bool,
+    pub exhausted: bool,
     pub repeat: bool,
     pub ahead: bool,
     pub late: bool,

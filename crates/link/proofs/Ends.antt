@@ -141,7 +141,7 @@ module _ (c : Clocks) (sm ss : Settings) (p : Paired sm ss) {l : List Entry} {em
     above-s : (f : Fields) (body : List ℕ) → isDropped (firstOf (requestFaults es f body)) ≡ false
         → isAbove (es .timestamps .accepted) (f .timestamp) ≡ true
     above-s f body h = not-false (isAbove (es .timestamps .accepted) (f .timestamp))
-        (not-dropped (requestFaults es f body) h .repeat)
+        (not-dropped (requestFaults es f body) refl h .repeat)
 
     other-s : (f : Fields) (body : List ℕ) (k : ℕ) → isExpired es t ≡ false → FoundAt f body l k
         → Bool·beq (f .application) (es .settings .slave) ≡ false

@@ -12,7 +12,7 @@ use Rattle.frame.proofs.Alike.{and-left}
 use Rattle.frame.specs.declared.Command.the-variants as K′
 use Rattle.frame.specs.declared.Fields.{Fields}
 use Rattle.frame.specs.Control.{is}
-use Rattle.endpoint.specs.declared.State.the-variants.{Close, Refresh, Terminate}
+use Rattle.endpoint.specs.declared.State.the-variants.{Close, Terminate}
 use Rattle.endpoint.specs.declared.Endpoint.{Endpoint}
 use Rattle.endpoint.specs.declared.Reason.{Reason}
 use Rattle.endpoint.specs.declared.Reason.the-variants as R
@@ -25,24 +25,16 @@ use Rattle.endpoint.specs.Updates.{withNotReady}
 use Rattle.transitions.specs.ByCall.{startedOf, restartedOf}
 use Rattle.transitions.specs.ByFrame.{refreshedOf}
 use Rattle.steps.specs.Frames.{nothing}
-use Rattle.steps.specs.Calls.{Outcome, outcome, dropped, sendFaults, sentOf, sendOf, stopFaults, stopOf}
+use Rattle.steps.specs.Calls.{Outcome, outcome, dropped, sendOf, stopFaults, stopOf}
 use Rattle.steps.specs.Deliveries.{refreshFaults, paddedOf, takeRefresh, deliverOf}
 use Rattle.steps.proofs.Dispatch.{cond-true, cond-false, deliver-echo, deliver-refresh}
+use Rattle.steps.proofs.Dones.{send-cases}
 use Rattle.steps.proofs.Keeps.{bcase}
 use Rattle.steps.specs.Steps.{Act, start, stop, restart, setNotReady, Call, act, send, deliver, show, actOf, stepOf}
 use Rattle.link.specs.Runs.{Entry, logged, lastOf, mayDeliver, tookBy}
 use Rattle.link.proofs.Entries.{FoundAt, found-at}
 
--- ---- send and stop are done or dropped
-send-cases : (P : Outcome → Type 0) (e : Endpoint) (t : ℕ) (value : List ℕ)
-    → (sendOf e t value .answer ≡ Done → P (sendOf e t value))
-    → ((a : Answer) → P (dropped e a)) → P (sendOf e t value)
-send-cases P e t value p q =
-    let a = firstOf (sendFaults e t (length value)) in
-    bcase (isDropped a) (λ h. subst P (sym (cond-true (isDropped a) (dropped e a) (sentOf e t value) h)) (q a))
-    (λ h. p (ap (λ (o : Outcome). o .answer) (cond-false (isDropped a) (dropped e a) (sentOf e t value) h)
-    ∙ bcase (isState (e .state) Refresh) (λ k. rw k) (λ k. rw k)))
-
+-- ---- a stop is done or dropped
 stop-cases : (P : Outcome → Type 0) (e : Endpoint) (t : ℕ) → (stopOf e t .answer ≡ Done → P (stopOf e t))
     → ((a : Answer) → P (dropped e a))
     → P (stopOf e t)
@@ -162,8 +154,11 @@ module _ (slave : Bool) (m t : ℕ) (l : List Entry) (e : Endpoint) (took : ℕ)
     pub acted : (call : Call) → mayDeliver l call ≡ true → Kept call (stepOf e t call)
     unfolding Keeps Kept
     acted (act a) h = (acts a, omega arith)
-    acted (send value) h =
-        (send-cases (Keeps (send value)) e t value (sent value) (λ a. silent (send value) a e base), omega arith)
+    acted (send value) h = (
+      send-cases e t (Keeps (send value)) value (sent value) (λ a. silent (send value) a e base)
+          (λ a. silent (send value) a (endedOf e) ended),
+      omega arith,
+    )
     acted (deliver f body) h = delivered f body (lastOf f body l - 1)
         (let z = leb-true 1 (lastOf f body l) h in omega arith)
     acted show h = (silent show Done e base, omega arith)

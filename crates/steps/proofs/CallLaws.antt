@@ -1,6 +1,7 @@
 -- The laws of the calls, all of them.
-use mathlib.Core.Path.{_≡_, refl, sym, subst}
+use mathlib.Core.Path.{_≡_, refl, sym, ap, subst}
 use Prim.Native.Nat.{ℕ}
+use Rattle.endpoint.specs.declared.Settings.{Settings}
 use Rattle.endpoint.specs.declared.Endpoint.{Endpoint}
 use Rattle.endpoint.specs.declared.Reason.{Reason}
 use Rattle.endpoint.specs.declared.Answer.the-variants.{Dropped}
@@ -9,6 +10,7 @@ use Rattle.steps.specs.Steps.{Act, start, stop, restart, setNotReady, Ca
 use Rattle.steps.specs.Steps.{stepOf}
 use Rattle.steps.specs.Laws.{Carries, SettingsFit, IsTyped, HandsBytes, StepLaws}
 use Rattle.steps.proofs.Carried as C
+use Rattle.steps.proofs.Counts as N
 use Rattle.steps.proofs.Dones as D
 use Rattle.steps.proofs.Keeps as P
 use Rattle.steps.proofs.Quiet.{start-quiet, restart-quiet, not-ready-quiet}
@@ -17,14 +19,14 @@ use Rattle.steps.proofs.Types as T
 -- ---- settings
 act-keeps : (e : Endpoint) (t : ℕ) (a : Act) → actOf e t a .endpoint .settings ≡ e .settings
 act-keeps e t start = P.start-keeps e t
-act-keeps e t stop = P.stop-keeps e t
-act-keeps e t restart = P.restart-keeps e t
-act-keeps e t (setNotReady b) = P.not-ready-keeps e t b
+act-keeps e t stop = ap (λ (s : Settings × ℕ). s .0) (P.stop-keeps e t)
+act-keeps e t restart = ap (λ (s : Settings × ℕ). s .0) (P.restart-keeps e t)
+act-keeps e t (setNotReady b) = ap (λ (s : Settings × ℕ). s .0) (P.not-ready-keeps e t b)
 
 keeps : (e : Endpoint) (t : ℕ) (call : Call) → stepOf e t call .endpoint .settings ≡ e .settings
 keeps e t (act a) = act-keeps e t a
 keeps e t (send value) = P.send-keeps e t value
-keeps e t (deliver f body) = P.deliver-keeps e t f body
+keeps e t (deliver f body) = ap (λ (s : Settings × ℕ). s .0) (P.deliver-keeps e t f body)
 keeps e t show = refl
 
 -- ---- what is written; only stop writes
@@ -74,6 +76,8 @@ step-laws = record {
   carries = carries;
   typed = typed;
   drops = drops;
+  counts = N.counts;
+  limited = N.limited;
   start-done = D.start-done;
   restart-done = λ e. D.restart-done e 0;
   not-ready-set = λ e. D.not-ready-set e 0;

@@ -12,6 +12,7 @@ use Rattle.frame.specs.Writing.{isBodyLength}
 use Rattle.frame.proofs.Alike.{and-left}
 use Rattle.endpoint.specs.declared.State.the-variants.{Refresh}
 use Rattle.endpoint.specs.declared.Endpoint.{Endpoint}
+use Rattle.endpoint.specs.declared.Answer.the-variants.{Done}
 use Rattle.endpoint.specs.Answers.{firstOf, isDone, isDropped, isEnded}
 use Rattle.endpoint.specs.Table.{isState, isSetup}
 use Rattle.steps.specs.Calls.{Outcome, isNothing, mayRequest, sendFaults, sendOf, stopFaults, stopOf}
@@ -19,18 +20,17 @@ use Rattle.steps.specs.Deliveries.{requestFaults, repliedOf, deliverOf}
 use Rattle.steps.specs.Laws.{Carries}
 use Rattle.steps.proofs.Dispatch.{cond-true, cond-false, deliver-echo, deliver-refresh, deliver-request}
 use Rattle.steps.proofs.Dispatch.{deliver-reply}
-use Rattle.steps.proofs.Firsts.{not-dropped, sent-width, request-width, neither}
+use Rattle.steps.proofs.Firsts.{is-done, first-done, sent-width, request-width, neither}
 use Rattle.steps.proofs.Keeps.{bcase}
 use Rattle.steps.proofs.Whole.{request-writable, refresh-writable, disconnect-writable, reply-writable}
 use Rattle.steps.proofs.Whole.{send-width-length, setup-length}
 
--- a send that is not dropped, outside Refresh, is a request
-pub may-request : (e : Endpoint) (t n : ℕ) → isState (e .state) Refresh ≡ false
-    → isDropped (firstOf (sendFaults e t n)) ≡ false
+-- a send that is done, outside Refresh, is a request
+pub may-request : (e : Endpoint) (t n : ℕ) → isState (e .state) Refresh ≡ false → firstOf (sendFaults e t n) ≡ Done
     → mayRequest e ≡ true
 may-request e t n k h =
     let w : (isState (e .state) Refresh || mayRequest e) ≡ true =
-    not-false (isState (e .state) Refresh || mayRequest e) (not-dropped (sendFaults e t n) h .turn) in
+    not-false (isState (e .state) Refresh || mayRequest e) (first-done (sendFaults e t n) h .turn) in
     rw k at w
 
 pub master-requests : (e : Endpoint) → mayRequest e ≡ true → e .settings .slave ≡ false
@@ -41,10 +41,14 @@ module _ (e : Endpoint) (t : ℕ) where
   pub send-carries : (value : List ℕ) → Carries e (sendOf e t value .writes)
   send-carries value =
       let n = length value in
-      bcase (isDropped (firstOf (sendFaults e t n))) (λ h. rw h tt)
-      (λ h. rw h (bcase (isState (e .state) Refresh)
-      (λ k. rw k (refresh-writable e t n (rw (sent-width e t n k h) (send-width-length (e .settings))), refl, refl))
-      (λ k. rw k (request-writable e t, refl, sym (master-requests e (may-request e t n k h))))))
+      let a = firstOf (sendFaults e t n) in
+      bcase (isDone a)
+      (λ h.
+      let d = is-done a h in
+      rw h (bcase (isState (e .state) Refresh)
+      (λ k. rw k (refresh-writable e t n (rw (sent-width e t n k d) (send-width-length (e .settings))), refl, refl))
+      (λ k. rw k (request-writable e t, refl, sym (master-requests e (may-request e t n k d))))))
+      (λ h. rw h tt)
 
   pub stop-carries : Carries e (stopOf e t .writes)
   stop-carries =

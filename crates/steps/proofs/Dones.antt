@@ -3,11 +3,11 @@ use mathlib.Core.Path.{_≡_, refl, sym, ap, _∙_}
 use mathlib.Core.Bool.{Bool, true, false, _&&_, not, Bool·beq, true≢false, false≢true}
 use mathlib.Core.List.{List}
 use mathlib.Core.Logic.{_⊎_, inl, inr}
-use Prim.Native.Nat.{ℕ}
+use Prim.Native.Nat.{ℕ, _<_}
 use native.Mathlib.Omega.{arith}
 use lib.Dec.{eqb}
 use lib.ListN.{length}
-use borrow.Author.Tests.{eqb-true, not-true, not-false}
+use borrow.Author.Tests.{leb-false, eqb-true, not-true, not-false}
 use Rattle.frame.specs.declared.Command.the-variants as K
 use Rattle.frame.specs.declared.Fields.{Fields}
 use Rattle.frame.specs.Control.{is}
@@ -21,19 +21,20 @@ use Rattle.endpoint.specs.declared.Reason.{Reason}
 use Rattle.endpoint.specs.declared.Reason.the-variants as R
 use Rattle.endpoint.specs.declared.Answer.{Answer}
 use Rattle.endpoint.specs.declared.Answer.the-variants.{Done, Dropped, Ended}
-use Rattle.endpoint.specs.Answers.{firstOf, isDropped}
+use Rattle.endpoint.specs.Answers.{firstOf, isDone, isDropped}
 use Rattle.endpoint.specs.Table.{isState, isSetup, requestOf}
-use Rattle.endpoint.specs.Time.{isAbove, timeOf}
-use Rattle.steps.specs.Frames.{setupData, showWidth}
-use Rattle.steps.specs.Calls.{Outcome, dropped, isNothing, startOf, restartOf, setNotReadyOf, sendFaults, sendOf}
-use Rattle.steps.specs.Calls.{stopFaults, stopOf}
+use Rattle.endpoint.specs.Time.{isAbove, endedOf, timeOf}
+use Rattle.transitions.specs.ByCall.{requestLimit, isExhausted}
+use Rattle.steps.specs.Frames.{nothing, setupData, showWidth}
+use Rattle.steps.specs.Calls.{Outcome, outcome, dropped, refused, startOf, restartOf, setNotReadyOf, isNothing}
+use Rattle.steps.specs.Calls.{mayRequest, sendFaults, sendOf, stopFaults, stopOf}
 use Rattle.steps.specs.Deliveries.{isAsked, answersTo, refreshFaults, requestFaults, replyFaults, takeRefresh}
 use Rattle.steps.specs.Deliveries.{takeRequest, takeReply, deliverOf}
 use Rattle.steps.specs.Laws.{StartDone, RestartDone, NotReadySet, RefreshSent, RequestSent, StopDone}
 use Rattle.steps.specs.Laws.{RefreshTaken, RequestTaken, DisconnectTaken, ReplyTaken}
 use Rattle.steps.proofs.Carried.{may-request, master-requests}
 use Rattle.steps.proofs.Dispatch.{cond-false, deliver-echo, deliver-refresh, deliver-request, deliver-reply}
-use Rattle.steps.proofs.Firsts.{not-dropped, not-soon, first-done, sent-width, neither}
+use Rattle.steps.proofs.Firsts.{not-dropped, not-soon, is-done, first-done, sent-width, neither}
 use Rattle.steps.proofs.Keeps.{bcase}
 
 -- ---- answers apart
@@ -91,17 +92,24 @@ module _ (e : Endpoint) (t : ℕ) where
       q ∙ ap (dropped e) (sym (ap (λ (o : Outcome). o .answer) q) ∙ d))
 
   -- ---- send
-  above-sent : (n : ℕ) → isDropped (firstOf (sendFaults e t n)) ≡ false
-      → isAbove (e .timestamps .sent) (timeOf e t) ≡ true
-  above-sent n h = not-false (isAbove (e .timestamps .sent) (timeOf e t)) (not-soon (sendFaults e t n) refl refl h)
+  above-sent : (n : ℕ) → firstOf (sendFaults e t n) ≡ Done → isAbove (e .timestamps .sent) (timeOf e t) ≡ true
+  above-sent n h = not-false (isAbove (e .timestamps .sent) (timeOf e t)) (first-done (sendFaults e t n) h .soon)
+
+  -- a request that is done was not one too many
+  few-requests : (n : ℕ) → firstOf (sendFaults e t n) ≡ Done → mayRequest e ≡ true → e .setup .requests < requestLimit
+  few-requests n h m =
+      let x : (mayRequest e && isExhausted e) ≡ false = first-done (sendFaults e t n) h .exhausted in
+      leb-false requestLimit (e .setup .requests) (rw m at x)
 
   pub send-done : (value : List ℕ) → sendOf e t value .answer ≡ Done → RefreshSent e t value ⊎ RequestSent e t value
   send-done value d =
       let n = length value in
       let a = firstOf (sendFaults e t n) in
-      bcase (isDropped a) (λ h. absurd (dropped-not-done a h (rw h at d)))
-      (λ h. bcase (isState (e .state) Refresh)
-      (λ k. inl (record { refresh = k; width = sent-width e t n k h; above = above-sent n h; comes = rw (h, k) }))
+      bcase (isDone a)
+      (λ i.
+      let h = is-done a i in
+      bcase (isState (e .state) Refresh)
+      (λ k. inl (record { refresh = k; width = sent-width e t n k h; above = above-sent n h; comes = rw (i, k) }))
       (λ k.
       let m = may-request e t n k h in
       let u = and-right (not (e .settings .slave)) (isSetup (e .state) && isNothing (e .setup .pending)) m in
@@ -109,18 +117,31 @@ module _ (e : Endpoint) (t : ℕ) where
         master = master-requests e m;
         setup = and-left (isSetup (e .state)) (isNothing (e .setup .pending)) u;
         idle = idle-is (e .setup .pending) (and-right (isSetup (e .state)) (isNothing (e .setup .pending)) u);
+        few = few-requests n h m;
         above = above-sent n h;
-        comes = rw (h, k);
+        comes = rw (i, k);
       })))
+      (λ i. absurd (false≢true (sym i ∙ ap isDone (rw i at d))))
 
   pub send-dropped : (value : List ℕ) (r : Reason) → sendOf e t value .answer ≡ Dropped r
       → sendOf e t value ≡ dropped e (Dropped r)
   send-dropped value r d =
       let a = firstOf (sendFaults e t (length value)) in
-      bcase (isDropped a) (λ h. let p : a ≡ Dropped r = rw h at d in rw h (ap (dropped e) p))
+      bcase (isDone a)
       (λ h. bcase (isState (e .state) Refresh)
       (λ k. absurd (not-done r (sym (rw (h, k) at d))))
       (λ k. absurd (not-done r (sym (rw (h, k) at d)))))
+      (λ h. let p : a ≡ Dropped r = rw h at d in rw h (ap (refused e) p))
+
+  -- a send is done, dropped, or ends the connection
+  pub send-cases : (P : Outcome → Type 0) (value : List ℕ) → (sendOf e t value .answer ≡ Done → P (sendOf e t value))
+      → ((a : Answer) → P (dropped e a)) → ((a : Answer) → P (outcome a (endedOf e) nothing)) → P (sendOf e t value)
+  send-cases P value p q r = go (firstOf (sendFaults e t (length value))) refl
+    where
+      go : (a : Answer) → firstOf (sendFaults e t (length value)) ≡ a → P (sendOf e t value)
+      go Done h = p (rw h (bcase (isState (e .state) Refresh) (λ k. rw k) (λ k. rw k)))
+      go (Dropped x) h = rw h (q (Dropped x))
+      go (Ended x) h = rw h (r (Ended x))
 
   -- ---- stop
   pub stop-done : stopOf e t .answer ≡ Done → StopDone e t
@@ -130,8 +151,8 @@ module _ (e : Endpoint) (t : ℕ) where
       bcase (isDropped a) (λ h. absurd (dropped-not-done a h (rw h at d)))
       (λ h.
       let n = neither (isState (e .state) Close) (isState (e .state) Terminate)
-      (not-dropped (stopFaults e t) h .turn) in
-      let s : (not (e .settings .slave) && not above) ≡ false = not-soon (stopFaults e t) refl refl h in
+      (not-dropped (stopFaults e t) refl h .turn) in
+      let s : (not (e .settings .slave) && not above) ≡ false = not-soon (stopFaults e t) refl refl refl h in
       record {
         begun = n .0;
         running = n .1;

@@ -1,5 +1,5 @@
 -- What an answer says of the tests before it.
-use mathlib.Core.Path.{_≡_, refl}
+use mathlib.Core.Path.{_≡_, refl, sym}
 use mathlib.Core.Bool.{Bool, true, false, _&&_, _||_, not, cond, true≢false}
 use mathlib.Core.List.{List}
 use Prim.Native.Nat.{ℕ}
@@ -15,7 +15,7 @@ use Rattle.endpoint.specs.declared.Reason.the-variants as R
 use Rattle.endpoint.specs.declared.Answer.{Answer}
 use Rattle.endpoint.specs.declared.Answer.the-variants.{Done, Dropped, Ended}
 use Rattle.endpoint.specs.declared.Faults.{Faults}
-use Rattle.endpoint.specs.Answers.{firstOf, isDropped}
+use Rattle.endpoint.specs.Answers.{firstOf, isDone, isDropped}
 use Rattle.endpoint.specs.Table.{isState}
 use Rattle.steps.specs.Frames.{sendWidth, setupData}
 use Rattle.steps.specs.Calls.{sendFaults}
@@ -33,27 +33,35 @@ pub record NotDropped (f : Faults) : Type 0 where
   pub repeat : f .repeat ≡ false
   pub ahead : f .ahead ≡ false
 
-pub not-dropped : (f : Faults) → isDropped (firstOf f) ≡ false → NotDropped f
-not-dropped f h =
+-- of a frame, or of a call that no count of requests can refuse
+pub not-dropped : (f : Faults) → f .exhausted ≡ false → isDropped (firstOf f) ≡ false → NotDropped f
+not-dropped f x h =
     let t = past (f .turn) R.Turn _ h in
     let w = past (f .width) R.Width _ (t .1) in
-    let p = past (f .repeat) R.Repeat _ (w .1) in
+    let p = past (f .repeat) R.Repeat _ (rw x at (w .1)) in
     let a = past (f .ahead) R.Ahead _ (p .1) in
     record { turn = t .0; width = w .0; repeat = p .0; ahead = a .0 }
 
 -- where nothing can end the connection, an answer that is not dropped is not too soon either
-pub not-soon : (f : Faults) → f .late ≡ false → f .unequal ≡ false → isDropped (firstOf f) ≡ false → f .soon ≡ false
-not-soon f l u h =
+pub not-soon : (f : Faults) → f .exhausted ≡ false → f .late ≡ false → f .unequal ≡ false
+    → isDropped (firstOf f) ≡ false → f .soon ≡ false
+not-soon f x l u h =
     let t = past (f .turn) R.Turn _ h in
     let w = past (f .width) R.Width _ (t .1) in
-    let p = past (f .repeat) R.Repeat _ (w .1) in
+    let p = past (f .repeat) R.Repeat _ (rw x at (w .1)) in
     let a = past (f .ahead) R.Ahead _ (p .1) in
     past (f .soon) R.TooSoon Done (rw (l, u) at (a .1)) .0
 
 -- ---- done: no test applies
+pub is-done : (a : Answer) → isDone a ≡ true → a ≡ Done
+is-done Done h = refl
+is-done (Dropped r) h = absurd (true≢false (sym h))
+is-done (Ended r) h = absurd (true≢false (sym h))
+
 pub record NoFault (f : Faults) : Type 0 where
   pub turn : f .turn ≡ false
   pub width : f .width ≡ false
+  pub exhausted : f .exhausted ≡ false
   pub repeat : f .repeat ≡ false
   pub ahead : f .ahead ≡ false
   pub late : f .late ≡ false
@@ -72,20 +80,29 @@ pub first-done : (f : Faults) → firstOf f ≡ Done → NoFault f
 first-done f h =
     let t = drops (f .turn) R.Turn _ h in
     let w = drops (f .width) R.Width _ (t .1) in
-    let p = drops (f .repeat) R.Repeat _ (w .1) in
+    let x = ends (f .exhausted) R.Exhausted _ (w .1) in
+    let p = drops (f .repeat) R.Repeat _ (x .1) in
     let a = drops (f .ahead) R.Ahead _ (p .1) in
     let l = ends (f .late) R.Late _ (a .1) in
     let u = ends (f .unequal) R.Unequal _ (l .1) in
     let s = drops (f .soon) R.TooSoon _ (u .1) in
-    record { turn = t .0; width = w .0; repeat = p .0; ahead = a .0; late = l .0; unequal = u .0; soon = s .0 }
+    record {
+      turn = t .0;
+      width = w .0;
+      exhausted = x .0;
+      repeat = p .0;
+      ahead = a .0;
+      late = l .0;
+      unequal = u .0;
+      soon = s .0;
+    }
 
 -- ---- the length of what is sent and taken
--- a send in Refresh that is not dropped has a value of the right length
-pub sent-width : (e : Endpoint) (t n : ℕ) → isState (e .state) Refresh ≡ true
-    → isDropped (firstOf (sendFaults e t n)) ≡ false
+-- a send in Refresh that is done has a value of the right length
+pub sent-width : (e : Endpoint) (t n : ℕ) → isState (e .state) Refresh ≡ true → firstOf (sendFaults e t n) ≡ Done
     → n ≡ sendWidth (e .settings)
 sent-width e t n r h =
-    let w : (isState (e .state) Refresh && not (eqb n (sendWidth (e .settings)))) ≡ false = not-dropped
+    let w : (isState (e .state) Refresh && not (eqb n (sendWidth (e .settings)))) ≡ false = first-done
     (sendFaults e t n) h .width in
     let v : not (eqb n (sendWidth (e .settings))) ≡ false = rw r at w in
     eqb-true n (sendWidth (e .settings)) (not-false (eqb n (sendWidth (e .settings))) v)
@@ -95,7 +112,7 @@ pub request-width : (e : Endpoint) (f : Fields) (body : List ℕ) → isDropped 
     → length body ≡ length (setupData (e .settings) (f .command))
 request-width e f body h =
     let n = length (setupData (e .settings) (f .command)) in
-    eqb-true (length body) n (not-false (eqb (length body) n) (not-dropped (requestFaults e f body) h .width))
+    eqb-true (length body) n (not-false (eqb (length body) n) (not-dropped (requestFaults e f body) refl h .width))
 
 -- neither of two
 pub neither : (a b : Bool) → (a || b) ≡ false → (a ≡ false) × (b ≡ false)

@@ -11,4 +11,5 @@ pub mod Quiet
 pub mod Carried
 pub mod Dones
 pub mod Types
+pub mod Counts
 pub mod CallLaws

@@ -15,7 +15,7 @@ use Rattle.frame.specs.RoundTrip.{Bytes, none, more, Typed}
 use Rattle.endpoint.specs.declared.Settings.{Settings}
 use Rattle.endpoint.specs.declared.State.the-variants.{Refresh}
 use Rattle.endpoint.specs.declared.Endpoint.{Endpoint}
-use Rattle.endpoint.specs.Answers.{firstOf, isDropped}
+use Rattle.endpoint.specs.Answers.{firstOf, isDone, isDropped}
 use Rattle.endpoint.specs.Table.{isState, requestOf}
 use Rattle.steps.specs.Frames.{setupData, sentFields, baselineOf}
 use Rattle.steps.specs.Calls.{Outcome, sendFaults, sendOf, stopFaults, stopOf}
@@ -60,12 +60,13 @@ baseline-fits k t measured = go (is k K.RefreshGo)
 module _ (e : Endpoint) (t : ℕ) where
   pub send-typed : (value : List ℕ) → SettingsFit (e .settings) → Bytes value → IsTyped (sendOf e t value .writes)
   send-typed value h r =
-      bcase (isDropped (firstOf (sendFaults e t (length value)))) (λ d. rw d tt)
+      bcase (isDone (firstOf (sendFaults e t (length value))))
       (λ d. rw d (bcase (isState (e .state) Refresh)
       (λ k. rw k (sent-typed _ _ _ _ _ value (h .connection) (lit< tt) r))
       (λ k. rw k (sent-typed _ _ _ _ _ (setupData (e .settings) (requestOf (e .state))) (h .connection)
       (baseline-fits (requestOf (e .state)) t (e .setup .measured))
       (data-bytes (e .settings) (requestOf (e .state)) h)))))
+      (λ d. rw d tt)
 
   pub stop-typed : SettingsFit (e .settings) → IsTyped (stopOf e t .writes)
   stop-typed h =

@@ -13,11 +13,11 @@ use Rattle.endpoint.specs.declared.Reason.the-variants as R
 use Rattle.endpoint.specs.declared.Answer.{Answer}
 use Rattle.endpoint.specs.declared.Answer.the-variants.{Done, Dropped}
 use Rattle.endpoint.specs.declared.Faults.{Faults}
-use Rattle.endpoint.specs.Answers.{callFaults, firstOf, isDropped}
+use Rattle.endpoint.specs.Answers.{callFaults, firstOf, isDone, isDropped, leftBy}
 use Rattle.endpoint.specs.Table.{isState, isSetup, requestOf}
-use Rattle.endpoint.specs.Time.{isAbove, timeOf}
+use Rattle.endpoint.specs.Time.{isAbove, endedOf, timeOf}
 use Rattle.endpoint.specs.Updates.{withNotReady}
-use Rattle.transitions.specs.ByCall.{startedOf, restartedOf, requestedOf, refreshSentOf, stoppedOf}
+use Rattle.transitions.specs.ByCall.{startedOf, restartedOf, isExhausted, requestedOf, refreshSentOf, stoppedOf}
 use Rattle.steps.specs.Frames.{Written, nothing, written, setupData, sendWidth, showWidth, requestFields}
 use Rattle.steps.specs.Frames.{refreshFields, disconnectFields}
 
@@ -33,6 +33,10 @@ outcome a e w = record { answer = a; endpoint = e; writes = w }
 -- refused: the endpoint stays, nothing is written
 abbrev pub dropped : Endpoint → Answer → Outcome
 dropped e a = outcome a e nothing
+
+-- refused: the endpoint stays, or ends where the answer says so; nothing is written
+abbrev pub refused : Endpoint → Answer → Outcome
+refused e a = outcome a (leftBy a e (endedOf e) e) nothing
 
 -- ---- start: a master's, in Close
 abbrev pub startOf : Endpoint → ℕ → Outcome
@@ -60,7 +64,7 @@ mayRequest e = not (e .settings .slave) && (isSetup (e .state) && isNothing (e .
 abbrev pub sendFaults : Endpoint → ℕ → ℕ → Faults
 sendFaults e t width =
     callFaults (not (isState (e .state) Refresh || mayRequest e))
-    (isState (e .state) Refresh && not (eqb width (sendWidth (e .settings))))
+    (isState (e .state) Refresh && not (eqb width (sendWidth (e .settings)))) (mayRequest e && isExhausted e)
     (not (isAbove (e .timestamps .sent) (timeOf e t)))
 
 -- what a send that is done comes to
@@ -71,13 +75,13 @@ sentOf e t value =
 
 abbrev pub sendOf : Endpoint → ℕ → List ℕ → Outcome
 sendOf e t value =
-    cond (isDropped (firstOf (sendFaults e t (length value)))) (dropped e (firstOf (sendFaults e t (length value))))
-    (sentOf e t value)
+    cond (isDone (firstOf (sendFaults e t (length value)))) (sentOf e t value)
+    (refused e (firstOf (sendFaults e t (length value))))
 
 -- ---- stop: from any state but Close and Terminate; a master's writes S-Disconnect
 abbrev pub stopFaults : Endpoint → ℕ → Faults
 stopFaults e t =
-    callFaults (isState (e .state) Close || isState (e .state) Terminate) false
+    callFaults (isState (e .state) Close || isState (e .state) Terminate) false false
     (not (e .settings .slave) && not (isAbove (e .timestamps .sent) (timeOf e t)))
 
 abbrev pub disconnectOf : Endpoint → ℕ → Written

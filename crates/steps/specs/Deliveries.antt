@@ -33,6 +33,7 @@ abbrev pub refreshFaults : Endpoint → ℕ → ℕ → ℕ → Faults
 refreshFaults e t stamp width = record {
   turn = not (isState (e .state) Refresh);
   width = not (eqb width (showWidth (e .settings)));
+  exhausted = false;
   repeat = not (isAbove (e .timestamps .accepted) stamp);
   ahead = isTooFarAhead (ageOf e t stamp) (allowanceOf (e .settings));
   late = isTooLate (ageOf e t stamp) (e .settings .age);

@@ -1,5 +1,5 @@
 -- The frames that an endpoint writes: fields and body.
-use mathlib.Core.Bool.{Bool, true, false, _&&_, cond}
+use mathlib.Core.Bool.{Bool, true, false, _&&_, _||_, not, cond}
 use mathlib.Core.List.{List, [], _∷_, _++_}
 use Prim.Native.Nat.{ℕ, _+_, _-_, _*_, _%_}
 use lib.Dec.{leb}
@@ -104,3 +104,7 @@ disconnectFields e t = sentFields K.Disconnect false (e .settings .connection) (
 -- the reply to a request: its Cmd and timestamp (of 48 bits)
 abbrev pub replyFields : Endpoint → Fields → Bool → Bool → Fields
 replyFields e f busy error = ackFields (f .command) busy error (e .settings .connection) (f .timestamp % span)
+
+-- a setup request: no reply, and neither S-Refresh nor S-Disconnect
+abbrev pub isRequest : Fields → Bool
+isRequest f = not (f .ack) && not (is (f .command) K.Refresh || is (f .command) K.Disconnect)

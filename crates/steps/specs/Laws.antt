@@ -1,9 +1,9 @@
 -- What holds of the calls, for whoever uses them and does not look at their text.
 use mathlib.Core.Path.{_≡_}
-use mathlib.Core.Bool.{Bool, true, false}
+use mathlib.Core.Bool.{Bool, true, false, _&&_, cond}
 use mathlib.Core.List.{List}
 use mathlib.Core.Logic.{_⊎_}
-use Prim.Native.Nat.{ℕ, _+_, _*_, _^_, _<_}
+use Prim.Native.Nat.{ℕ, _+_, _*_, _^_, _≤_, _<_}
 use lib.ListN.{length}
 use Rattle.frame.specs.declared.Command.the-variants as K
 use Rattle.frame.specs.declared.Fields.{Fields}
@@ -17,15 +17,16 @@ use Rattle.endpoint.specs.declared.Endpoint.{Endpoint}
 use Rattle.endpoint.specs.declared.Reason.{Reason}
 use Rattle.endpoint.specs.declared.Answer.the-variants.{Done, Dropped}
 use Rattle.endpoint.specs.Table.{isState, isSetup, isNo, nextOf, requestOf}
+use Rattle.endpoint.specs.Answers.{isDone}
 use Rattle.endpoint.specs.Time.{isAbove, isTooFarAhead, isTooLate, allowanceOf, timeOf}
 use Rattle.endpoint.specs.Updates.{withNotReady}
-use Rattle.transitions.specs.ByCall.{startedOf, restartedOf, requestedOf, refreshSentOf, stoppedOf}
+use Rattle.transitions.specs.ByCall.{startedOf, restartedOf, requestLimit, requestedOf, refreshSentOf, stoppedOf}
 use Rattle.transitions.specs.ByFrame.{refreshedOf, isBusy, answeredOf, endedBy, heardOf}
 use Rattle.steps.specs.Frames.{Written, nothing, written, setupData, sendWidth, showWidth, requestFields}
-use Rattle.steps.specs.Frames.{refreshFields, replyFields}
+use Rattle.steps.specs.Frames.{refreshFields, replyFields, isRequest}
 use Rattle.steps.specs.Calls.{outcome, dropped, disconnectOf, startOf, restartOf, setNotReadyOf, sendOf, stopOf}
 use Rattle.steps.specs.Deliveries.{paddedOf, takeRefresh, takeRequest, takeReply, ageOf}
-use Rattle.steps.specs.Steps.{Call, act, send, deliver, show, stepOf}
+use Rattle.steps.specs.Steps.{Act, start, stop, restart, setNotReady, Call, act, send, deliver, show, stepOf}
 
 -- what is written can be written, and carries the endpoint's CID and its role's Application bit
 abbrev pub Carries : Endpoint → Written → Type 0
@@ -55,6 +56,25 @@ HandsBytes (send value) = Bytes value
 HandsBytes (deliver f body) = Bytes body
 HandsBytes show = Unit {0}
 
+-- ---- the count of setup requests
+-- how many of them are written
+abbrev pub requestsIn : Written → ℕ
+requestsIn nothing = 0
+requestsIn (written f body) = cond (isRequest f) 1 0
+
+-- only a start begins it anew
+abbrev pub begins : Act → Bool
+begins start = true
+begins stop = false
+begins restart = false
+begins (setNotReady b) = false
+
+abbrev pub isStart : Call → Bool
+isStart (act a) = begins a
+isStart (send value) = false
+isStart (deliver f body) = false
+isStart show = false
+
 -- ---- what a call that is done tells of the endpoint, and what it comes to
 pub record StartDone (e : Endpoint) (t : ℕ) : Type 0 where
   pub master : e .settings .slave ≡ false
@@ -79,6 +99,7 @@ pub record RequestSent (e : Endpoint) (t : ℕ) (value : List ℕ) : Type 0 wher
   pub master : e .settings .slave ≡ false
   pub setup : isSetup (e .state) ≡ true
   pub idle : e .setup .pending ≡ Nothing
+  pub few : e .setup .requests < requestLimit
   pub above : isAbove (e .timestamps .sent) (timeOf e t) ≡ true
   pub comes : sendOf e t value
       ≡ outcome Done (requestedOf e t) (written (requestFields e t) (setupData (e .settings) (requestOf (e .state))))
@@ -127,6 +148,12 @@ pub record StepLaws : Type 0 where
   -- a refusal that does not end the connection leaves all as it was
   pub drops : (e : Endpoint) (t : ℕ) (call : Call) (r : Reason) → stepOf e t call .answer ≡ Dropped r
       → stepOf e t call ≡ dropped e (Dropped r)
+  -- a start that is done begins the count of requests anew, each request written adds one; it keeps its limit
+  pub counts : (e : Endpoint) (t : ℕ) (call : Call) → stepOf e t call .endpoint .setup .requests
+      ≡ cond (isStart call && isDone (stepOf e t call .answer)) 0
+      (e .setup .requests + requestsIn (stepOf e t call .writes))
+  pub limited : (e : Endpoint) (t : ℕ) (call : Call) → e .setup .requests ≤ requestLimit
+      → stepOf e t call .endpoint .setup .requests ≤ requestLimit
   -- what done tells
   pub start-done : (e : Endpoint) (t : ℕ) → startOf e t .answer ≡ Done → StartDone e t
   pub restart-done : (e : Endpoint) → restartOf e .answer ≡ Done → RestartDone e

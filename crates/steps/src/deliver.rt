@@ -75,6 +75,7 @@ fn refresh_answer(e: Endpoint, clock: u64, stamp: u64, width: usize) -> Answer
     first_of(Faults {
         turn: !refresh,
         width: width != due,
+        exhausted: false,
         repeat: !above,
         ahead: ahead,
         late: late,
@@ -148,6 +149,7 @@ fn request_answer(e: Endpoint, f: Fields, body: &[u8]) -> Answer
     first_of(Faults {
         turn: no,
         width: body.len() != due,
+        exhausted: false,
         repeat: !above,
         ahead: false,
         late: false,
@@ -208,6 +210,7 @@ fn reply_answer(e: Endpoint, f: Fields, body: &[u8]) -> Answer
     first_of(Faults {
         turn: !(in_setup & (f.ack & (asked & matches))),
         width: body.len() != length,
+        exhausted: false,
         repeat: !answers,
         ahead: false,
         late: false,

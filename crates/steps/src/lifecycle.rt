@@ -66,6 +66,7 @@ fn stop_answer(e: Endpoint, clock: u64) -> Answer
     first_of(Faults {
         turn: turn,
         width: false,
+        exhausted: false,
         repeat: false,
         ahead: false,
         late: false,

@@ -18,12 +18,15 @@ use endpoint::Pending;
 use endpoint::Reason;
 use endpoint::State;
 use endpoint::answers::first_of;
-use endpoint::answers::is_dropped;
+use endpoint::answers::is_done;
+use endpoint::answers::left_by;
 use endpoint::table::is_setup;
 use endpoint::table::is_state;
 use endpoint::table::request_of;
+use endpoint::time::ended;
 use endpoint::time::is_above;
 use endpoint::time::stamp_of;
+use transitions::by_call::is_exhausted;
 use transitions::by_call::refresh_sent;
 use transitions::by_call::requested;
 
@@ -55,12 +58,14 @@ fn send_answer(e: Endpoint, clock: u64, width: usize) -> Answer
     let sent = timestamps.sent;
     let refresh = is_state(state, State::Refresh);
     let may = may_request(e);
+    let exhausted = is_exhausted(e);
     let due = send_width(settings);
     let stamp = stamp_of(e, clock);
     let above = is_above(sent, stamp);
     first_of(Faults {
         turn: !(refresh | may),
         width: refresh & (width != due),
+        exhausted: may & exhausted,
         repeat: false,
         ahead: false,
         late: false,
@@ -78,8 +83,8 @@ pub fn send(e: Endpoint, clock: u64, value: &[u8], out: &mut [u8]) -> Stepped
         return stepped(Answer::Dropped(Reason::Buffer), e, 0);
     }
     let answer = send_answer(e, clock, value.len());
-    if is_dropped(answer) {
-        return stepped(answer, e, 0);
+    if !is_done(answer) {
+        return stepped(answer, left_by(answer, e, ended(e), e), 0);
     }
     let state = e.state;
     let settings = e.settings;

@@ -1,24 +1,29 @@
 -- What a user's call that is done leaves.
-use mathlib.Core.Bool.{false, cond}
-use Prim.Native.Nat.{ℕ}
+use mathlib.Core.Bool.{Bool, false, cond}
+use Prim.Native.Nat.{ℕ, _+_, _%_}
+use lib.Dec.{leb}
+use Rattle.frame.specs.declared.Command.{Command}
+use Rattle.frame.specs.declared.Command.the-variants as K
+use Rattle.frame.specs.Control.{is}
 use Rattle.endpoint.specs.declared.Settings.{Settings}
 use Rattle.endpoint.specs.declared.State.the-variants.{Close, Starting}
 use Rattle.endpoint.specs.declared.Timestamp.the-variants.{Never, At}
 use Rattle.endpoint.specs.declared.Timestamps.{Timestamps}
 use Rattle.endpoint.specs.declared.Pending.the-variants.{Nothing, Asked}
 use Rattle.endpoint.specs.declared.Endpoint.{Endpoint}
+use Rattle.endpoint.specs.Table.{requestOf}
 use Rattle.endpoint.specs.Time.{noValue, endedOf, timeOf}
-use Rattle.endpoint.specs.Updates.{endpointOf, inState, timedFrom, withTimestamps, withPending, holding}
+use Rattle.endpoint.specs.Updates.{endpointOf, inState, timedFrom, withTimestamps, withPending, withRequests, holding}
 
 -- a connection as loaded
 abbrev pub freshOf : Settings → Endpoint
 freshOf s =
     endpointOf s Close 0 (record { sent = Never; accepted = Never })
-    (record { pending = Nothing; measured = 0; offset = 0 }) (record { notready = false }) noValue
+    (record { pending = Nothing; measured = 0; offset = 0; requests = 0 }) (record { notready = false }) noValue
 
--- start
+-- start; the count of requests begins anew
 abbrev pub startedOf : Endpoint → ℕ → Endpoint
-startedOf e t = inState Starting (timedFrom t (withPending Nothing (holding noValue e)))
+startedOf e t = inState Starting (timedFrom t (withRequests 0 (withPending Nothing (holding noValue e))))
 
 -- restart; timestamps are remembered
 abbrev pub restartedOf : Endpoint → Endpoint
@@ -28,9 +33,23 @@ restartedOf e = inState Close (holding noValue e)
 abbrev pub stampedOf : Endpoint → ℕ → Timestamps
 stampedOf e stamp = record { sent = At stamp; accepted = e .timestamps .accepted }
 
+-- a start writes at most 45 requests (document 02, note 3)
+abbrev pub requestLimit : ℕ
+requestLimit = 45
+
+-- a further request would be one too many
+abbrev pub isExhausted : Endpoint → Bool
+isExhausted e = leb requestLimit (e .setup .requests)
+
+-- how many requests have been written once this command is, in 8 bits: S-Disconnect is not counted
+abbrev pub countedOf : Endpoint → Command → ℕ
+countedOf e k = cond (is k K.Disconnect) (e .setup .requests) ((e .setup .requests + 1) % 256)
+
 -- send: a request
 abbrev pub requestedOf : Endpoint → ℕ → Endpoint
-requestedOf e t = timedFrom t (withTimestamps (stampedOf e (timeOf e t)) (withPending (Asked (timeOf e t)) e))
+requestedOf e t =
+    timedFrom t (withTimestamps (stampedOf e (timeOf e t))
+    (withRequests (countedOf e (requestOf (e .state))) (withPending (Asked (timeOf e t)) e)))
 
 -- send: S-Refresh
 abbrev pub refreshSentOf : Endpoint → ℕ → Endpoint
@@ -39,4 +58,5 @@ refreshSentOf e t = withTimestamps (stampedOf e (timeOf e t)) e
 -- stop; a master's has sent S-Disconnect
 abbrev pub stoppedOf : Endpoint → ℕ → Endpoint
 stoppedOf e t =
-    withTimestamps (cond (e .settings .slave) (e .timestamps) (stampedOf e (timeOf e t))) (endedOf e)
+    withTimestamps (cond (e .settings .slave) (e .timestamps) (stampedOf e (timeOf e t)))
+    (withRequests (countedOf e K.Disconnect) (endedOf e))

@@ -42,7 +42,7 @@ abbrev pub advancedOf : Endpoint → ℕ → Fields → Endpoint
 advancedOf e t f =
     inState (stateTo (nextOf (f .command) (e .state)) (e .state))
     (timedFrom t (withTimestamps (acceptedOf e (f .timestamp))
-    (withSetup (e .setup .pending) (measuredBy (f .command) t (e .setup .measured)) (offsetBy e f)
+    (withSetup (e .setup .pending) (measuredBy (f .command) t (e .setup .measured)) (offsetBy e f) (e .setup .requests)
     (holding noValue e))))
 
 -- a station that is not ready answers S-InitConfirmNetPrm, S-InitVerifyStnPrm and S-RefreshReady with Busy 1
@@ -67,7 +67,7 @@ abbrev pub confirmedOf : Endpoint → ℕ → Endpoint
 confirmedOf e t =
     inState (stateTo (nextOf (requestOf (e .state)) (e .state)) (e .state))
     (timedFrom t (withSetup Nothing (measuredBy (requestOf (e .state)) t (e .setup .measured)) (e .setup .offset)
-    (holding noValue e)))
+    (e .setup .requests) (holding noValue e)))
 
 -- Busy: the request is due again, with a new timestamp; the timer starts afresh, the state and m2 stay (001: MT30 to
 -- MT32)

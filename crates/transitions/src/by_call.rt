@@ -1,8 +1,8 @@
 // What a user's call that is done leaves.
 ghost use mathlib.Core.Path.{_≡_};
 ghost use Rattle.endpoint.specs.Updates.{withNotReady};
-ghost use Rattle.transitions.specs.ByCall.{freshOf, startedOf, restartedOf, stampedOf, requestedOf};
-ghost use Rattle.transitions.specs.ByCall.{refreshSentOf, stoppedOf};
+ghost use Rattle.transitions.specs.ByCall.{freshOf, startedOf, restartedOf, stampedOf, isExhausted};
+ghost use Rattle.transitions.specs.ByCall.{countedOf, requestedOf, refreshSentOf, stoppedOf};
 use endpoint::Endpoint;
 use endpoint::Pending;
 use endpoint::Settings;
@@ -11,8 +11,11 @@ use endpoint::State;
 use endpoint::Station;
 use endpoint::Timestamp;
 use endpoint::Timestamps;
+use endpoint::table::request_of;
 use endpoint::time::no_value;
 use endpoint::time::stamp_of;
+use frame::Command;
+use frame::control::is;
 
 // A connection as loaded: in Close, with no timestamp remembered.
 pub fn fresh(s: Settings) -> Endpoint
@@ -30,6 +33,7 @@ pub fn fresh(s: Settings) -> Endpoint
             pending: Pending::Nothing,
             measured: 0,
             offset: 0,
+            requests: 0,
         },
         station: Station { notready: false },
         value: no_value(),
@@ -42,6 +46,7 @@ pub fn started(e: Endpoint, clock: u64) -> Endpoint
     let settings = e.settings;
     let timestamps = e.timestamps;
     let station = e.station;
+    let count = 0;
     Endpoint {
         settings: settings,
         state: State::Starting,
@@ -51,6 +56,7 @@ pub fn started(e: Endpoint, clock: u64) -> Endpoint
             pending: Pending::Nothing,
             measured: e.setup.measured,
             offset: e.setup.offset,
+            requests: count,
         },
         station: station,
         value: no_value(),
@@ -62,14 +68,14 @@ pub fn restarted(e: Endpoint) -> Endpoint
 {
     let settings = e.settings;
     let remembered = e.timestamps;
-    let setup = e.setup;
+    let kept = e.setup;
     let station = e.station;
     Endpoint {
         settings: settings,
         state: State::Close,
         since: e.since,
         timestamps: remembered,
-        setup: setup,
+        setup: kept,
         station: station,
         value: no_value(),
     }
@@ -87,6 +93,23 @@ pub fn stamped(e: Endpoint, stamp: u64) -> Timestamps
     }
 }
 
+// Whether a further request would be one too many: a start writes at most 45.
+pub fn is_exhausted(e: Endpoint) -> bool
+    ensures { λ r. ⌜ r ≡ isExhausted e ⌝ }
+{
+    45 <= e.setup.requests
+}
+
+// How many setup requests have been written once this command is: S-Disconnect is not counted.
+fn counted(e: Endpoint, k: Command) -> u8
+    ensures { λ r. ⌜ r ≡ countedOf e k ⌝ }
+{
+    if is(k, Command::Disconnect) {
+        return e.setup.requests;
+    }
+    std::num::wrapping_add_u8(e.setup.requests, 1)
+}
+
 pub fn requested(e: Endpoint, clock: u64) -> Endpoint
     ensures { λ r. ⌜ r ≡ requestedOf e clock ⌝ }
 {
@@ -96,6 +119,7 @@ pub fn requested(e: Endpoint, clock: u64) -> Endpoint
     let value = e.value;
     let stamp = stamp_of(e, clock);
     let timestamps = stamped(e, stamp);
+    let requests = counted(e, request_of(state));
     Endpoint {
         settings: settings,
         state: state,
@@ -105,6 +129,7 @@ pub fn requested(e: Endpoint, clock: u64) -> Endpoint
             pending: Pending::Asked(stamp),
             measured: e.setup.measured,
             offset: e.setup.offset,
+            requests: requests,
         },
         station: station,
         value: value,
@@ -146,14 +171,21 @@ pub fn stopped(e: Endpoint, clock: u64) -> Endpoint
 {
     let settings = e.settings;
     let setup = e.setup;
+    let pending = setup.pending;
     let station = e.station;
     let timestamps = stop_stamps(e, clock);
+    let requests = counted(e, Command::Disconnect);
     Endpoint {
         settings: settings,
         state: State::Terminate,
         since: e.since,
         timestamps: timestamps,
-        setup: setup,
+        setup: Setup {
+            pending: pending,
+            measured: setup.measured,
+            offset: setup.offset,
+            requests: requests,
+        },
         station: station,
         value: no_value(),
     }

@@ -32,7 +32,7 @@ blank = record {
   state = Close;
   since = 0;
   timestamps = record { sent = Never; accepted = Never };
-  setup = record { pending = Nothing; measured = 0; offset = 0 };
+  setup = record { pending = Nothing; measured = 0; offset = 0; requests = 0 };
   station = record { notready = false };
   value = record { taken = false; bytes = [] };
 }

@@ -2,13 +2,16 @@
 use borrow.Author.Needs.{needs}
 use lib.ListN.{length}
 use mathlib.Core.Path.{_≡_, sym, _∙_}
-use Rattle.steps.proofs.Firsts.{sent-width}
+use borrow.Author.Tests.{not-true, not-false}
+use Rattle.steps.proofs.Firsts.{is-done, sent-width}
 use Rattle.steps.proofs.Outcomes.{short, quiet, loud}
 use Rattle.steps.proofs.Whole.{request-writable, refresh-writable, send-width-length}
 use Rattle.transitions.specs.ByCall.{requestedOf, refreshSentOf}
 use Rattle.steps.specs.Calls.{outcome, sendOf}
 use Rattle.steps.specs.Frames.{nothing, written, setupData, sendWidth, requestFields, refreshFields}
+use Rattle.endpoint.specs.Answers.{leftBy}
 use Rattle.endpoint.specs.Table.{requestOf}
+use Rattle.endpoint.specs.Time.{endedOf}
 use Rattle.endpoint.specs.declared.Answer.the-variants.{Done}
 use Rattle.steps.proofs.send.send.Statement.{statement}
 use Rattle.steps.proofs.send.send.Tie as tie
@@ -20,14 +23,18 @@ returns c =
 
 returns-2 : tie.Need-returns-2
 returns-2 c =
-    let d = c .before .before in
+    let l = c .before in
+    let i = l .before .before in
+    let d = i .before in
     let s = d .before in
     let a = s .before .before .before .before .args in
     let r = s .send-answer .result in
     let o = sendOf (a .e) (a .clock) (a .value .now) in
-    let q : o ≡ outcome r (a .e) nothing =
-    rw (← s .send-answer .ensures, ← d .is-dropped .ensures, c .before .if2 .taken) in
-    quiet (a .out .now) (a .e) o (s .before .if1 .left) r (a .e) q (c .stepped2 .ensures)
+    let x = leftBy r (a .e) (endedOf (a .e)) (a .e) in
+    let q : o ≡ outcome r x nothing =
+    rw (← s .send-answer .ensures, ← d .is-done .ensures, not-true (d .is-done .result) (i .if2 .taken)) in
+    quiet (a .out .now) (a .e) o (s .before .if1 .left) r x q
+    (rw (← l .before .ended .ensures, ← l .left-by .ensures) (c .stepped2 .ensures))
 
 write-whole-requires : tie.Need-write-whole-requires
 write-whole-requires c κs =
@@ -39,7 +46,8 @@ write-whole-requires c κs =
     let n = length (a .value .now) in
     let w : n ≡ sendWidth (a .e .settings) =
     sent-width (a .e) (a .clock) n (sym (i .is-state .ensures) ∙ f .before .if3 .taken)
-    (rw (← s .send-answer .ensures) (sym (d .is-dropped .ensures) ∙ i .before .before .if2 .left)) in (
+    (sym (s .send-answer .ensures) ∙ is-done (s .send-answer .result)
+    (sym (d .is-done .ensures) ∙ not-false (d .is-done .result) (i .before .before .if2 .left))) in (
       s .before .if1 .left,
       rw (f .refresh-fields .ensures)
           (refresh-writable (a .e) (a .clock) n (rw w (send-width-length (a .e .settings)))),
@@ -58,8 +66,8 @@ returns-3 c =
     let q : o ≡ outcome Done x (written (refreshFields (a .e) (a .clock)) (a .value .now)) =
     rw (
       ← s .send-answer .ensures,
-      ← d .is-dropped .ensures,
-      i .before .before .if2 .left,
+      ← d .is-done .ensures,
+      not-false (d .is-done .result) (i .before .before .if2 .left),
       ← i .is-state .ensures,
       f .before .if3 .taken,
     ) in
@@ -91,8 +99,8 @@ returns-4 c =
     let q : o ≡ outcome Done x (written (requestFields (a .e) (a .clock)) b) =
     rw (
       ← s .send-answer .ensures,
-      ← d .is-dropped .ensures,
-      i .before .before .if2 .left,
+      ← d .is-done .ensures,
+      not-false (d .is-done .result) (i .before .before .if2 .left),
       ← i .is-state .ensures,
       f .before .if3 .left,
     ) in
@@ -106,6 +114,8 @@ send-spec =
     (tie.spec
     (λ c κs. search needs)
     returns
+    (λ c κs. search needs)
+    (λ c κs. search needs)
     (λ c κs. search needs)
     (λ c κs. search needs)
     (λ c κs. search needs)

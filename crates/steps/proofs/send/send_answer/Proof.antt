@@ -6,12 +6,14 @@ use Rattle.steps.proofs.send.send_answer.Tie as tie
 returns : tie.Need-returns
 returns c =
     let s = c .before .before in
-    let m = s .before .before in
+    let x = s .before .before in
+    let m = x .before in
     rw (
       c .first-of .ensures,
       c .before .is-above .ensures,
       s .stamp-of .ensures,
       s .before .send-width .ensures,
+      x .is-exhausted .ensures,
       m .may-request .ensures,
       m .before .is-state .ensures,
     )
@@ -20,6 +22,7 @@ pub send-answer-spec : {M : Type 1} → statement M
 send-answer-spec =
     tie.close
     (tie.spec
+    (λ c κs. search needs)
     (λ c κs. search needs)
     (λ c κs. search needs)
     (λ c κs. search needs)

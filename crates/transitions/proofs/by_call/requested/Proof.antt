@@ -3,10 +3,17 @@ use borrow.Author.Needs.{needs}
 use Rattle.transitions.proofs.by_call.requested.Statement.{statement}
 use Rattle.transitions.proofs.by_call.requested.Tie as tie
 
+returns : tie.Need-returns
+returns c =
+    let s = c .before .before in
+    rw (c .counted .ensures, c .before .request-of .ensures, s .stamped .ensures, s .before .stamp-of .ensures)
+
 pub requested-spec : {M : Type 1} → statement M
 requested-spec =
     tie.close
     (tie.spec
     (λ c κs. search needs)
     (λ c κs. search needs)
-    (λ c. rw (c .stamped .ensures, c .before .stamp-of .ensures)))
+    (λ c κs. search needs)
+    (λ c κs. search needs)
+    returns)

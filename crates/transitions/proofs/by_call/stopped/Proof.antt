@@ -9,4 +9,5 @@ stopped-spec =
     (tie.spec
     (λ c κs. search needs)
     (λ c κs. search needs)
-    (λ c. rw (c .no-value .ensures, c .before .stop-stamps .ensures)))
+    (λ c κs. search needs)
+    (λ c. rw (c .no-value .ensures, c .before .counted .ensures, c .before .before .stop-stamps .ensures)))
