@@ -1,5 +1,5 @@
 /*
- * The program of crates/exchange in plain C, written from document 01: the baseline
+ * The program of crates/exchange in plain C, written from documents 01 and 02: the baseline
  * of the exchange benchmark. Same arguments, same line printed. A device is passed by
  * pointer. Stop, restart, stations that are not ready and loading from a list are left
  * out: no exchange meets them.
@@ -18,12 +18,13 @@
 #define CONNECTIONS 8
 #define VALUE_MAX 100
 #define SETUP_DATA_MAX 16
+#define REQUESTS_MAX 45
 
 #define STAMP_SPAN ((uint64_t)1 << 48)
 #define STAMP_HALF ((uint64_t)1 << 47)
 #define CLOCK_MAX (STAMP_SPAN - 65537)
 
-/* Document 01's numbers; 4 to 7 are those of the frame check. */
+/* Document 01's numbers, and document 02's 19; 4 to 7 are those of the frame check. */
 enum answer {
     DONE = 0,
     CLOCK = 1,
@@ -39,6 +40,7 @@ enum answer {
     LATE = 15,
     UNEQUAL = 16,
     TOO_SOON = 17,
+    EXHAUSTED = 19,
 };
 
 /* Starting is a master's state before its first reply. */
@@ -75,6 +77,7 @@ struct endpoint {
     struct stamp pending;
     uint64_t measured;
     uint64_t offset;
+    uint8_t requests;
     bool taken;
     uint8_t value[VALUE_MAX];
 };
@@ -283,6 +286,7 @@ static size_t send_request(struct endpoint *endpoint, uint64_t clock, uint64_t s
     endpoint->since = clock;
     endpoint->sent = at(stamp);
     endpoint->pending = at(stamp);
+    endpoint->requests++;
     return write_frame(out, &fields, data, length);
 }
 
@@ -462,6 +466,7 @@ static struct called start(struct device *device, uint64_t clock, uint32_t n)
     endpoint->state = STARTING;
     endpoint->since = clock;
     endpoint->pending.known = false;
+    endpoint->requests = 0;
     return gives(DONE, (int)n, 0);
 }
 
@@ -494,6 +499,10 @@ static struct called send(struct device *device, uint64_t clock, uint32_t n, con
     }
     if (refresh && length != send_width(endpoint)) {
         return gives(WIDTH, (int)n, 0);
+    }
+    if (!refresh && endpoint->requests >= REQUESTS_MAX) {
+        end(endpoint);
+        return gives(EXHAUSTED, (int)n, 0);
     }
     stamp = master_time(endpoint, clock);
     if (!is_above(endpoint->sent, stamp)) {

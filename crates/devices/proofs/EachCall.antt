@@ -11,51 +11,40 @@ use lib.Seq.{slice}
 use borrow.Author.Tests.{eqb-true, eq-eqb, ne-eqb}
 use Rattle.frame.specs.declared.Command.the-variants as K
 use Rattle.frame.specs.declared.Fields.{Fields}
-use Rattle.frame.specs.declared.Reading.{Reading}
-use Rattle.frame.specs.declared.Reading.the-variants.{Frame, Refused}
+use Rattle.frame.specs.declared.Reading.the-variants.{Frame}
 use Rattle.frame.specs.Control.{is}
 use Rattle.frame.specs.Reading.{readingOf}
 use Rattle.frame.specs.Writing.{frameBytes}
 use Rattle.frame.specs.RoundTrip.{Writable}
 use Rattle.frame.proofs.ReadBack.{round-trip}
 use Rattle.endpoint.specs.declared.Settings.{Settings}
-use Rattle.endpoint.specs.declared.Timestamp.{Timestamp}
 use Rattle.endpoint.specs.declared.Endpoint.{Endpoint}
-use Rattle.endpoint.specs.declared.Reason.{Reason}
-use Rattle.endpoint.specs.declared.Reason.the-variants as R
 use Rattle.endpoint.specs.declared.Answer.{Answer}
-use Rattle.endpoint.specs.declared.Answer.the-variants.{Done, Dropped}
 use Rattle.endpoint.specs.Answers.{isDone}
 use Rattle.endpoint.specs.Time.{isExpired, afterTick}
 use Rattle.steps.specs.Frames.{Written, nothing}
 use Rattle.steps.specs.Calls.{Outcome, isFailSafe, shownOf}
 use Rattle.steps.specs.Deliveries.{deliverOf}
 use Rattle.steps.specs.Steps as S
-use Rattle.steps.specs.Steps.{Act, start, stop, restart, setNotReady}
+use Rattle.steps.specs.Steps.{Act}
 use Rattle.steps.proofs.Dispatch.{cond-true, cond-false}
 use Rattle.steps.proofs.Keeps.{bcase}
 use Rattle.device.specs.declared.Device.{Device}
 use Rattle.device.specs.declared.Entry.{Entry}
-use Rattle.device.specs.declared.Entry.the-variants.{Absent, At}
+use Rattle.device.specs.declared.Entry.the-variants.{At}
 use Rattle.device.specs.Tables.{endpointAt, entryOf}
 use Rattle.device.specs.Clock.{isReading, clockStep, afterClock}
-use Rattle.device.specs.Calls.{Result, result, admit, refusedEntry, refusedOf, onEntry, isShort, beforeShow, shownIn}
-use Rattle.device.specs.Calls.{emptyCycle, reasonOf, byEntry, byReading}
+use Rattle.device.specs.Calls.{Result, result, refusedOf, onEntry, isShort, beforeShow, shownIn}
 use Rattle.link.specs.Runs as L
-use Rattle.devices.specs.Runs.{Call, act, send, deliver, show, actIn, callIn, isOf, isRefreshIn, isFrameOf}
-use Rattle.devices.specs.Runs.{isRefreshOf, frameBy, lastOf, mayDeliver, handsBytes, tookBy, isAt, showsValue}
-use Rattle.devices.specs.Runs.{shownBy}
+use Rattle.devices.specs.Runs.{Call, act, send, deliver, show, callIn, isOf, isRefreshIn, isFrameOf, isRefreshOf}
+use Rattle.devices.specs.Runs.{frameBy, lastOf, mayDeliver, handsBytes, tookBy, isAt, showsValue, shownBy}
 use Rattle.devices.proofs.Tables.{Like, like-tick, like-at, ticked-at, at, entry-like, entry-found}
 use Rattle.devices.proofs.Loaded.{Table}
 use Rattle.devices.proofs.Logs.{bytes-of, toLog, AllGood, no-more, last-of}
 use Rattle.devices.proofs.Idle.{call-expired, call-timely, tick-expired, tick-timely}
 use Rattle.devices.proofs.Reaching as A
-use Rattle.devices.proofs.Reaching.{Arrival, arrival, lends, act-in}
+use Rattle.devices.proofs.Reaching.{and-false, Arrival, arrival, lends, act-in}
 use Rattle.devices.proofs.OneCall.{empty, not-logged, Matches, clocked, only-clock, EntryCall, entry-call}
-
-and-false : (b : Bool) → (b && false) ≡ false
-and-false true = refl
-and-false false = refl
 
 -- zero bytes are no S-Refresh
 no-refresh : (cid : ℕ) (s : List ℕ) → eqb (length s) 0 ≡ true → isRefreshOf cid s ≡ false

@@ -1,7 +1,7 @@
 -- One call on a device, seen from one CID's entry: some call on that endpoint does the same to it, and to what is
 -- written and shown of the CID.
 use mathlib.Core.Path.{_≡_, refl, sym, ap, subst, _∙_}
-use mathlib.Core.Bool.{Bool, true, false, not, cond, false≢true}
+use mathlib.Core.Bool.{Bool, true, false}
 use mathlib.Core.List.{List, [], _∷_}
 use mathlib.Core.Option.{Option}
 use Prim.Native.Nat.{ℕ, _<_}
@@ -15,9 +15,7 @@ use Rattle.frame.specs.RoundTrip.{Writable}
 use Rattle.frame.proofs.Alike.{and-left, and-right}
 use Rattle.endpoint.specs.declared.Settings.{Settings}
 use Rattle.endpoint.specs.declared.Endpoint.{Endpoint}
-use Rattle.endpoint.specs.declared.Reason.the-variants as R
 use Rattle.endpoint.specs.declared.Answer.{Answer}
-use Rattle.endpoint.specs.declared.Answer.the-variants.{Done, Dropped, Ended}
 use Rattle.endpoint.specs.Answers.{isDone}
 use Rattle.endpoint.specs.Time.{isExpired, afterTick}
 use Rattle.steps.specs.Frames.{Written, nothing, written, bytesOf}
@@ -34,8 +32,7 @@ use Rattle.device.specs.Calls.{Result, refusedOf, actedOf, beforeEntry, onEntry
 use Rattle.link.specs.Runs as L
 use Rattle.devices.specs.Runs.{Call, callIn, isFrameOf, sent, frameBy, lentTo, logged, tookBy, showsValue}
 use Rattle.devices.specs.Runs.{shownBy}
-use Rattle.devices.proofs.Tables.{Like, like-trans, like-tick, like-at, like-length, ticked-at, placed-here}
-use Rattle.devices.proofs.Tables.{placed-there, like-placed}
+use Rattle.devices.proofs.Tables.{Like, like-tick, like-at, like-length, ticked-at, placed-here, placed-there}
 use Rattle.devices.proofs.Loaded.{Table}
 use Rattle.devices.proofs.Logs.{frame-of, toSent, toLog, AllGood, no-more, and-more}
 use Rattle.devices.proofs.Idle.{idle-at, call-timely}

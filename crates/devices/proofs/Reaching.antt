@@ -1,6 +1,6 @@
 -- Which connection a call on a device reaches: none, and the clock step is all; or one, whose step it takes.
 use mathlib.Core.Path.{_≡_, refl, sym, ap, _∙_}
-use mathlib.Core.Bool.{Bool, true, false, not, cond, false≢true}
+use mathlib.Core.Bool.{Bool, true, false, _&&_, not, cond, false≢true}
 use mathlib.Core.List.{List, []}
 use mathlib.Core.Logic.{_⊎_, inl, inr}
 use Prim.Native.Nat.{ℕ}
@@ -34,6 +34,10 @@ use Rattle.device.specs.Calls.{result, admit, refusedEntry, refusedOf, actedOf,
 use Rattle.device.specs.Calls.{emptyCycle, reasonOf, byEntry, byReading, deliverIn}
 use Rattle.devices.specs.Runs.{actIn}
 use Rattle.devices.proofs.Tables.{Like, like-trans, like-tick, like-at, like-placed}
+
+pub and-false : (b : Bool) → (b && false) ≡ false
+and-false true = refl
+and-false false = refl
 
 -- ---- a call on an entry
 -- whether an output that is too short was lent: only a stop is lent one

@@ -7,18 +7,15 @@ use native.Mathlib.Omega.{arith}
 use lib.Dec.{eqb, ltb, lit≤}
 use lib.ListN.{length}
 use lib.Seq.{slice}
-use borrow.Author.Tests.{ltb-true, eqb-true, eqb-false, eq-eqb}
-use Rattle.frame.specs.declared.Fields.{Fields}
+use borrow.Author.Tests.{ltb-true, eqb-true, eqb-false}
 use Rattle.frame.specs.Reading.{readingOf}
-use Rattle.frame.specs.Writing.{frameBytes}
 use Rattle.frame.proofs.Alike.{and-left, and-right}
 use Rattle.frame.proofs.ReadBack.{round-trip}
-use Rattle.endpoint.specs.declared.Settings.{Settings}
 use Rattle.endpoint.specs.declared.Endpoint.{Endpoint}
 use Rattle.endpoint.specs.Answers.{isDone}
-use Rattle.endpoint.specs.Time.{isExpired, endedOf, afterTick}
+use Rattle.endpoint.specs.Time.{isExpired, afterTick}
 use Rattle.transitions.specs.ByCall.{requestLimit}
-use Rattle.steps.specs.Frames.{Written, nothing, written, bytesOf, isRequest}
+use Rattle.steps.specs.Frames.{Written, nothing, written, bytesOf}
 use Rattle.steps.specs.Calls.{Outcome}
 use Rattle.steps.specs.Steps as S
 use Rattle.steps.specs.Laws.{Carries, SettingsFit, IsTyped, HandsBytes, requestsIn, isStart}
@@ -26,8 +23,7 @@ use Rattle.steps.proofs.CallLaws.{step-laws}
 use Rattle.steps.proofs.Dispatch.{cond-true, cond-false}
 use Rattle.steps.proofs.Keeps.{bcase}
 use Rattle.device.specs.declared.Device.{Device}
-use Rattle.device.specs.Tables.{isEntry, endpointAt, unloaded}
-use Rattle.device.specs.Loading.{loadedOf}
+use Rattle.device.specs.Tables.{endpointAt, unloaded}
 use Rattle.device.specs.Clock.{isReading, clockStep, afterClock}
 use Rattle.device.specs.Calls.{Result, refusedOf, actedOf, beforeEntry, onEntry, isShort, beforeShow, shownIn}
 use Rattle.devices.specs.Runs.{Call, act, send, deliver, show, callIn, frameBy, handsBytes, isAt}
@@ -37,6 +33,7 @@ use Rattle.devices.proofs.Tables.{Like, like-tick, like-at, like-length
 use Rattle.devices.proofs.Loaded.{Sound, unloaded-sound, unloaded-none, loaded-sound, loaded-none}
 use Rattle.devices.proofs.Logs.{bytes-of}
 use Rattle.devices.proofs.Reaching as A
+use Rattle.devices.proofs.Reaching.{and-false}
 
 -- the clock step touches nothing of setup
 tick-setup : (e : Endpoint) (t : ℕ) → afterTick e t .setup .requests ≡ e .setup .requests
@@ -60,10 +57,6 @@ count-back e (written f body) c y =
 empty : isRequestIn (readingOf []) ≡ false
 unfolding readingOf
 empty = refl
-
-and-false : (b : Bool) → (b && false) ≡ false
-and-false true = refl
-and-false false = refl
 
 and-true : (b : Bool) → (b && true) ≡ b
 and-true true = refl

@@ -1,9 +1,9 @@
 -- The count of setup requests: begun anew by a start, one more with each that is written, and within its limit.
 use mathlib.Core.Path.{_≡_, refl, sym, ap, subst, _∙_}
-use mathlib.Core.Bool.{Bool, true, false, _&&_, _||_, not, cond, Bool·beq}
+use mathlib.Core.Bool.{Bool, false, _&&_, _||_, not, cond, Bool·beq}
 use mathlib.Core.List.{List}
 use mathlib.Core.Logic.{⊎-elim}
-use Prim.Native.Nat.{ℕ, _+_, _%_, _≤_, _<_}
+use Prim.Native.Nat.{ℕ, _+_, _%_, _≤_}
 use native.Mathlib.Omega.{arith}
 use lib.Dec.{lit≤}
 use Rattle.frame.specs.declared.Command.the-variants as K
@@ -17,7 +17,6 @@ use Rattle.endpoint.specs.declared.Endpoint.{Endpoint}
 use Rattle.endpoint.specs.Answers.{firstOf, isDone, isDropped}
 use Rattle.endpoint.specs.Table.{isState, requestOf}
 use Rattle.transitions.specs.ByCall.{requestLimit}
-use Rattle.steps.specs.Frames.{Written, nothing}
 use Rattle.steps.specs.Calls.{Outcome, startOf, restartOf, setNotReadyOf, sendOf, stopFaults, stopOf}
 use Rattle.steps.specs.Deliveries.{requestFaults, repliedOf, deliverOf}
 use Rattle.steps.specs.Steps.{start, stop, restart, setNotReady, Call, act, send, deliver, show, stepOf}

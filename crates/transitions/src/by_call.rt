@@ -82,7 +82,7 @@ pub fn restarted(e: Endpoint) -> Endpoint
 }
 
 // What is remembered once a frame with this timestamp is sent.
-pub fn stamped(e: Endpoint, stamp: u64) -> Timestamps
+fn stamped(e: Endpoint, stamp: u64) -> Timestamps
     ensures { λ r. ⌜ r ≡ stampedOf e stamp ⌝ }
 {
     let timestamps = e.timestamps;
@@ -156,7 +156,7 @@ pub fn refresh_sent(e: Endpoint, clock: u64) -> Endpoint
     }
 }
 
-pub fn stop_stamps(e: Endpoint, clock: u64) -> Timestamps
+fn stop_stamps(e: Endpoint, clock: u64) -> Timestamps
     ensures { λ r. ⌜ r ≡ stoppedOf e clock .timestamps ⌝ }
 {
     if e.settings.slave {

@@ -21,7 +21,7 @@ use frame::control::is;
 use frame::control::may_be_busy;
 
 // What is remembered once a frame with this timestamp is accepted.
-pub fn accepted(e: Endpoint, stamp: u64) -> Timestamps
+fn accepted(e: Endpoint, stamp: u64) -> Timestamps
     ensures { λ r. ⌜ r ≡ acceptedOf e stamp ⌝ }
 {
     let timestamps = e.timestamps;
@@ -72,7 +72,7 @@ pub fn ended_by(e: Endpoint, stamp: u64) -> Endpoint
     }
 }
 
-pub fn measured_by(k: Command, clock: u64, measured: u64) -> u64
+fn measured_by(k: Command, clock: u64, measured: u64) -> u64
     ensures { λ r. ⌜ r ≡ measuredBy k clock measured ⌝ }
 {
     if is(k, Command::RefreshReady) {
@@ -82,7 +82,7 @@ pub fn measured_by(k: Command, clock: u64, measured: u64) -> u64
     }
 }
 
-pub fn offset_by(e: Endpoint, f: Fields) -> u64
+fn offset_by(e: Endpoint, f: Fields) -> u64
     ensures { λ r. ⌜ r ≡ offsetBy e f ⌝ }
 {
     let k = f.command;
@@ -92,7 +92,7 @@ pub fn offset_by(e: Endpoint, f: Fields) -> u64
     e.setup.offset
 }
 
-pub fn advanced(e: Endpoint, clock: u64, f: Fields) -> Endpoint
+fn advanced(e: Endpoint, clock: u64, f: Fields) -> Endpoint
     ensures { λ r. ⌜ r ≡ advancedOf e clock f ⌝ }
 {
     let settings = e.settings;
@@ -129,7 +129,7 @@ pub fn is_busy(e: Endpoint, k: Command) -> bool
 }
 
 // The state stays, and s2; the timer runs from the Busy reply.
-pub fn deferred(e: Endpoint, clock: u64, f: Fields) -> Endpoint
+fn deferred(e: Endpoint, clock: u64, f: Fields) -> Endpoint
     ensures { λ r. ⌜ r ≡ deferredOf e clock f ⌝ }
 {
     let settings = e.settings;
@@ -157,7 +157,7 @@ pub fn deferred(e: Endpoint, clock: u64, f: Fields) -> Endpoint
 }
 
 // What a request that is done leaves once it has its reply.
-pub fn answered(e: Endpoint, clock: u64, f: Fields) -> Endpoint
+fn answered(e: Endpoint, clock: u64, f: Fields) -> Endpoint
     ensures { λ r. ⌜ r ≡ answeredOf e clock f ⌝ }
 {
     let k = f.command;
@@ -178,7 +178,7 @@ pub fn taken(e: Endpoint, clock: u64, f: Fields) -> Endpoint
     answered(e, clock, f)
 }
 
-pub fn confirmed(e: Endpoint, clock: u64) -> Endpoint
+fn confirmed(e: Endpoint, clock: u64) -> Endpoint
     ensures { λ r. ⌜ r ≡ confirmedOf e clock ⌝ }
 {
     let settings = e.settings;
@@ -206,7 +206,7 @@ pub fn confirmed(e: Endpoint, clock: u64) -> Endpoint
 
 // Nothing is pending, so that the same request is due again; the state stays, and m2; the timer runs from the Busy
 // reply.
-pub fn due_again(e: Endpoint, clock: u64) -> Endpoint
+fn due_again(e: Endpoint, clock: u64) -> Endpoint
     ensures { λ r. ⌜ r ≡ dueAgainOf e clock ⌝ }
 {
     let settings = e.settings;
