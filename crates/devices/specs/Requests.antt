@@ -11,7 +11,7 @@ use Rattle.frame.specs.Reading.{readingOf}
 use Rattle.endpoint.specs.Answers.{isDone}
 use Rattle.transitions.specs.ByCall.{requestLimit}
 use Rattle.steps.specs.Frames.{isRequest}
-use Rattle.steps.specs.Laws.{begins}
+use Rattle.steps.specs.Steps.{begins}
 use Rattle.device.specs.declared.Device.{Device}
 use Rattle.device.specs.Tables.{endpointAt, unloaded}
 use Rattle.device.specs.Loading.{loadedOf}

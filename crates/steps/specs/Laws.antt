@@ -26,7 +26,7 @@ use Rattle.steps.specs.Frames.{Written, nothing, written, setupData, sen
 use Rattle.steps.specs.Frames.{refreshFields, replyFields, isRequest}
 use Rattle.steps.specs.Calls.{outcome, dropped, disconnectOf, startOf, restartOf, setNotReadyOf, sendOf, stopOf}
 use Rattle.steps.specs.Deliveries.{paddedOf, takeRefresh, takeRequest, takeReply, ageOf}
-use Rattle.steps.specs.Steps.{Act, start, stop, restart, setNotReady, Call, act, send, deliver, show, stepOf}
+use Rattle.steps.specs.Steps.{begins, Call, act, send, deliver, show, stepOf}
 
 -- what is written can be written, and carries the endpoint's CID and its role's Application bit
 abbrev pub Carries : Endpoint → Written → Type 0
@@ -61,13 +61,6 @@ HandsBytes show = Unit {0}
 abbrev pub requestsIn : Written → ℕ
 requestsIn nothing = 0
 requestsIn (written f body) = cond (isRequest f) 1 0
-
--- only a start begins it anew
-abbrev pub begins : Act → Bool
-begins start = true
-begins stop = false
-begins restart = false
-begins (setNotReady b) = false
 
 abbrev pub isStart : Call → Bool
 isStart (act a) = begins a

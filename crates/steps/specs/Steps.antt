@@ -1,5 +1,5 @@
 -- Every call on an endpoint, and what it comes to.
-use mathlib.Core.Bool.{Bool}
+use mathlib.Core.Bool.{Bool, true, false}
 use mathlib.Core.List.{List}
 use Prim.Native.Nat.{ℕ}
 use Rattle.frame.specs.declared.Fields.{Fields}
@@ -15,6 +15,13 @@ pub data Act : Type 0 where
   stop : Act
   restart : Act
   setNotReady : Bool → Act
+
+-- only a start begins the count of requests anew
+abbrev pub begins : Act → Bool
+begins start = true
+begins stop = false
+begins restart = false
+begins (setNotReady b) = false
 
 pub data Call : Type 0 where
   act : Act → Call
