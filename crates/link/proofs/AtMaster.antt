@@ -30,11 +30,10 @@ use Rattle.steps.proofs.Keeps.{bcase}
 use Rattle.link.specs.Runs.{Clocks, clockLimit, Entry}
 use Rattle.link.specs.Fresh.{Paired}
 use Rattle.link.proofs.Marks.{Mark, mark, at, snoc, Has}
-use Rattle.link.proofs.Invariant.{Terms, Small, MPhase, restM, asked, got, liveM, Master, Inv, MPh, GoOf}
-use Rattle.link.proofs.Invariant.{wobble}
+use Rattle.link.proofs.Invariant.{Terms, Small, MPhase, restM, asked, got, liveM, Master, Inv, MPh, GoOf, wobble}
 use Rattle.link.proofs.Kept.{m-phase, m-got, m-writes, m-goes, m-takes, held-rises}
-use Rattle.link.proofs.Relation.{termsOf, small-of, whoOf, markOf, marks, topOf, above-top, RelM, Honest}
-use Rattle.link.proofs.Relation.{Linked, setup-timer, refresh-timer, master-time, young-of}
+use Rattle.link.proofs.Relation.{termsOf, small-of, whoOf, markOf, marks, topOf, above-top, RelM, Honest, Linked}
+use Rattle.link.proofs.Relation.{setup-timer, refresh-timer, master-time, young-of}
 use Rattle.link.proofs.Ages.{Young, young-more}
 use Rattle.link.proofs.Entries.{marks-snoc, honest-snoc, is-eq, FoundAt, in-log, the-mark, marked-code}
 use Rattle.link.proofs.Entries.{marked-stamp, marked-body}

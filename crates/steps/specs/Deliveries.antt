@@ -18,8 +18,7 @@ use Rattle.endpoint.specs.declared.Answer.the-variants.{Dropped}
 use Rattle.endpoint.specs.declared.Faults.{Faults}
 use Rattle.endpoint.specs.Answers.{setupFaults, firstOf, isDone, isDropped, isEnded, leftBy}
 use Rattle.endpoint.specs.Table.{isState, isSetup, nextOf, isNo, requestOf}
-use Rattle.endpoint.specs.Time.{minus, isAbove, isTooFarAhead, allowanceOf, isTooLate, endedOf}
-use Rattle.endpoint.specs.Time.{timeOf}
+use Rattle.endpoint.specs.Time.{minus, isAbove, isTooFarAhead, allowanceOf, isTooLate, endedOf, timeOf}
 use Rattle.transitions.specs.ByFrame.{refreshedOf, endedBy, isBusy, takenOf, heardOf}
 use Rattle.steps.specs.Frames.{Written, nothing, written, setupData, showWidth, replyFields}
 use Rattle.steps.specs.Calls.{Outcome, outcome, dropped}

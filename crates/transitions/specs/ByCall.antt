@@ -25,7 +25,7 @@ freshOf s =
 abbrev pub startedOf : Endpoint → ℕ → Endpoint
 startedOf e t = inState Starting (timedFrom t (withRequests 0 (withPending Nothing (holding noValue e))))
 
--- restart; timestamps are remembered
+-- restart; what is remembered of timestamps stays, and the count of requests
 abbrev pub restartedOf : Endpoint → Endpoint
 restartedOf e = inState Close (holding noValue e)
 
