@@ -222,7 +222,8 @@ module _ (cid : ℕ) (slave : Bool) (m : ℕ) (d₀ : Device) (n : ℕ) (T : Tab
         let p : L.callOf e t by ≡ o = call-timely e t by (told n E h .1) in
         let c : e .settings .connection ≡ cid = ap (λ (s : Settings). s .connection) (like-at same n) ∙ T .has in
         let l : n < length (clockStep t d .endpoints) =
-        subst (λ (i : ℕ). n < i) (sym (like-length (like-tick d t) ∙ like-length same ∙ T .sound .length8)) (T .within) in
+        subst (λ (i : ℕ). n < i) (sym (like-length (like-tick d t) ∙ like-length same ∙ T .sound .length8))
+        (T .within) in
         record {
           by = by;
           endpoint = ap (λ (r : Result). endpointAt (r .device .endpoints) n) q

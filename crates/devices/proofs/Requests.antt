@@ -125,7 +125,8 @@ module _ (n : ℕ) (d : Device) (count : ℕ) (H : Held n d count) (t : ℕ) whe
         -- what holds of the step holds of the call
         acted : Held n (actedOf o t k d .device) (countAfter n c (actedOf o t k d) count) → After c
         acted x =
-            subst (λ (r : Result). Held n (r .device) (countAfter n c r count)) (sym (is ∙ A.reached d t by short k h)) x
+            subst (λ (r : Result). Held n (r .device) (countAfter n c r count))
+            (sym (is ∙ A.reached d t by short k h)) x
 
         counted : k < d .count
         counted = ltb-true k (d .count) (and-left (ltb k (d .count)) (ltb k 8) (A.reached-tells d t by short k h .0))
