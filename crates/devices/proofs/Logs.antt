@@ -9,7 +9,7 @@ use lib.ListN.{length}
 use borrow.Author.Tests.{eq-eqb, ltb-true}
 use Rattle.frame.specs.declared.Command.the-variants as K
 use Rattle.frame.specs.declared.Fields.{Fields}
-use Rattle.frame.specs.Control.{codeOf, is, sessionBits}
+use Rattle.frame.specs.Control.{codeOf, is, subconnectionBits}
 use Rattle.frame.specs.Reading.{same}
 use Rattle.frame.specs.Writing.{frameBytes}
 use Rattle.frame.specs.RoundTrip.{Bytes, none, more, Writable}
@@ -87,7 +87,8 @@ unfolding L.sameFields
 fields-refl f =
     both (eq-eqb (codeOf (f .command)) _ refl)
     (both (beq-refl (f .ack)) (both (beq-refl (f .busy)) (both (beq-refl (f .error))
-    (both (beq-refl (f .sequence)) (both (beq-refl (f .application)) (both (eq-eqb (sessionBits (f .session)) _ refl)
+    (both (beq-refl (f .sequence)) (both (beq-refl (f .application))
+    (both (eq-eqb (subconnectionBits (f .subconnection)) _ refl)
     (both (eq-eqb (f .connection) _ refl) (both (eq-eqb (f .timestamp) _ refl) (eq-eqb (f .baseline) _ refl)))))))))
 
 iff : (a b : Bool) → (a ≡ true → b ≡ true) → (b ≡ true → a ≡ true) → a ≡ b

@@ -5,19 +5,18 @@ use mathlib.Core.Bool.{Bool, true, false}
 use mathlib.Core.List.{List, [], _∷_}
 use mathlib.Core.Option.{Option}
 use Prim.Native.Nat.{ℕ, _<_}
-use lib.Dec.{eqb, ltb}
+use lib.Dec.{eqb}
 use lib.ListN.{length}
-use borrow.Author.Tests.{ltb-true, eqb-true, eqb-false, eq-eqb, ne-eqb}
+use borrow.Author.Tests.{eqb-true, eqb-false, eq-eqb, ne-eqb}
 use Rattle.frame.specs.declared.Fields.{Fields}
 use Rattle.frame.specs.Reading.{readingOf}
 use Rattle.frame.specs.Writing.{frameBytes}
 use Rattle.frame.specs.RoundTrip.{Writable}
-use Rattle.frame.proofs.Alike.{and-left, and-right}
 use Rattle.endpoint.specs.declared.Settings.{Settings}
 use Rattle.endpoint.specs.declared.Endpoint.{Endpoint}
 use Rattle.endpoint.specs.declared.Answer.{Answer}
 use Rattle.endpoint.specs.Answers.{isDone}
-use Rattle.endpoint.specs.Time.{isExpired, afterTick}
+use Rattle.endpoint.specs.Time.{afterTick}
 use Rattle.steps.specs.Frames.{Written, nothing, written, bytesOf}
 use Rattle.steps.specs.Calls.{Outcome}
 use Rattle.steps.specs.Steps as S
@@ -26,7 +25,7 @@ use Rattle.steps.proofs.CallLaws.{step-laws}
 use Rattle.steps.proofs.Dispatch.{cond-true, cond-false}
 use Rattle.steps.proofs.Keeps.{bcase}
 use Rattle.device.specs.declared.Device.{Device}
-use Rattle.device.specs.Tables.{isEntry, endpointAt}
+use Rattle.device.specs.Tables.{endpointAt}
 use Rattle.device.specs.Clock.{isReading, clockStep, afterClock}
 use Rattle.device.specs.Calls.{Result, refusedOf, actedOf, beforeEntry, onEntry}
 use Rattle.link.specs.Runs as L
@@ -36,7 +35,8 @@ use Rattle.devices.proofs.Tables.{Like, like-tick, like-at, like-length
 use Rattle.devices.proofs.Loaded.{Table}
 use Rattle.devices.proofs.Logs.{frame-of, toSent, toLog, AllGood, no-more, and-more}
 use Rattle.devices.proofs.Idle.{idle-at, call-timely}
-use Rattle.devices.proofs.Reaching.{does, not-reached, reached, reached-tells, reached-like}
+use Rattle.devices.proofs.Reaching.{does, not-reached, reached, reached-counted, reached-within}
+use Rattle.devices.proofs.Reaching.{reached-timely, reached-like}
 
 -- ---- the frame that a call wrote
 pub empty : (cid : ℕ) → isFrameOf cid [] ≡ false
@@ -180,15 +180,11 @@ module _ (cid : ℕ) (slave : Bool) (m : ℕ) (d₀ : Device) (n : ℕ) (T : Tab
       acted : callIn d t room call ≡ actedOf does-there t k d
       acted = E .is ∙ reached d t by short k h
 
-      told : (isEntry (d .count) k ≡ true) × (isExpired (endpointAt (d .endpoints) k) t ≡ false)
-      told = reached-tells d t by short k h
-
       counted : k < d₀ .count
-      counted = subst (λ (c : ℕ). k < c) (same .counts)
-          (ltb-true k (d .count) (and-left (ltb k (d .count)) (ltb k 8) (told .0)))
+      counted = subst (λ (c : ℕ). k < c) (same .counts) (reached-counted d t by short k h)
 
       small : k < 8
-      small = ltb-true k 8 (and-right (ltb k (d .count)) (ltb k 8) (told .0))
+      small = reached-within d t by short k h
 
       fits : SettingsFit (endpointAt (d .endpoints) k .settings)
       fits = subst SettingsFit (sym (like-at same k)) (T .sound .fits k counted small)
@@ -219,7 +215,7 @@ module _ (cid : ℕ) (slave : Bool) (m : ℕ) (d₀ : Device) (n : ℕ) (T : Tab
         let e = endpointAt (d .endpoints) n in
         let o = does d t by short n in
         let q = acted n E h in
-        let p : L.callOf e t by ≡ o = call-timely e t by (told n E h .1) in
+        let p : L.callOf e t by ≡ o = call-timely e t by (reached-timely d t by short n h) in
         let c : e .settings .connection ≡ cid = ap (λ (s : Settings). s .connection) (like-at same n) ∙ T .has in
         let l : n < length (clockStep t d .endpoints) =
         subst (λ (i : ℕ). n < i) (sym (like-length (like-tick d t) ∙ like-length same ∙ T .sound .length8))

@@ -3,14 +3,16 @@ use mathlib.Core.Path.{_≡_, refl, sym, ap, _∙_}
 use mathlib.Core.Bool.{Bool, true, false, _&&_, not, cond, false≢true}
 use mathlib.Core.List.{List, []}
 use mathlib.Core.Logic.{_⊎_, inl, inr}
-use Prim.Native.Nat.{ℕ}
-use lib.Dec.{eqb}
+use Prim.Native.Nat.{ℕ, _<_}
+use lib.Dec.{eqb, ltb}
 use lib.ListN.{length}
 use lib.Seq.{slice}
+use borrow.Author.Tests.{ltb-true}
 use Rattle.frame.specs.declared.Fields.{Fields}
 use Rattle.frame.specs.declared.Reading.{Reading}
 use Rattle.frame.specs.declared.Reading.the-variants.{Frame, Refused}
 use Rattle.frame.specs.Reading.{readingOf}
+use Rattle.frame.proofs.Alike.{and-left, and-right}
 use Rattle.endpoint.specs.declared.Timestamp.{Timestamp}
 use Rattle.endpoint.specs.declared.Reason.{Reason}
 use Rattle.endpoint.specs.declared.Reason.the-variants as R
@@ -81,9 +83,18 @@ module _ (d : Device) (t : ℕ) (by : S.Call) (short : Bool) (k : ℕ) where
     reached =
         cond-true (isDone (beforeEntry d t short k)) (actedOf does t k d) (refusedOf (beforeEntry d t short k) t k d) h
 
-    pub reached-tells : (isEntry (d .count) k ≡ true) × (isExpired (endpointAt (d .endpoints) k) t ≡ false)
-    reached-tells =
-        tells (isReading (d .last) t) short (isEntry (d .count) k) (isExpired (endpointAt (d .endpoints) k) t) h
+    told : (isEntry (d .count) k ≡ true) × (isExpired (endpointAt (d .endpoints) k) t ≡ false)
+    told = tells (isReading (d .last) t) short (isEntry (d .count) k) (isExpired (endpointAt (d .endpoints) k) t) h
+
+    -- there is such a connection, and its timer has not expired
+    pub reached-counted : k < d .count
+    reached-counted = ltb-true k (d .count) (and-left (ltb k (d .count)) (ltb k 8) (told .0))
+
+    pub reached-within : k < 8
+    reached-within = ltb-true k 8 (and-right (ltb k (d .count)) (ltb k 8) (told .0))
+
+    pub reached-timely : isExpired (endpointAt (d .endpoints) k) t ≡ false
+    reached-timely = told .1
 
   pub reached-like : Like (actedOf does t k d .device) d
   reached-like =

@@ -4,16 +4,17 @@ use mathlib.Core.Bool.{Bool, true, false, _&&_, cond}
 use mathlib.Core.List.{List, [], _∷_}
 use Prim.Native.Nat.{ℕ, suc, _+_, _≤_, _<_}
 use native.Mathlib.Omega.{arith}
-use lib.Dec.{eqb, ltb, lit≤}
+use lib.Dec.{eqb, lit≤}
 use lib.ListN.{length}
 use lib.Seq.{slice}
-use borrow.Author.Tests.{ltb-true, eqb-true, eqb-false}
+use borrow.Author.Tests.{eqb-true, eqb-false}
 use Rattle.frame.specs.Reading.{readingOf}
 use Rattle.frame.proofs.Alike.{and-left, and-right}
 use Rattle.frame.proofs.ReadBack.{round-trip}
+use Rattle.endpoint.specs.declared.Settings.{Settings}
 use Rattle.endpoint.specs.declared.Endpoint.{Endpoint}
 use Rattle.endpoint.specs.Answers.{isDone}
-use Rattle.endpoint.specs.Time.{isExpired, afterTick}
+use Rattle.endpoint.specs.Time.{afterTick}
 use Rattle.transitions.specs.ByCall.{requestLimit}
 use Rattle.steps.specs.Frames.{Written, nothing, written, bytesOf}
 use Rattle.steps.specs.Calls.{Outcome}
@@ -29,15 +30,12 @@ use Rattle.device.specs.Calls.{Result, refusedOf, actedOf, beforeEntry, onEntry
 use Rattle.devices.specs.Runs.{Call, act, send, deliver, show, callIn, frameBy, handsBytes, isAt}
 use Rattle.devices.specs.Requests.{Step, load, call, isRequestIn, isStartOf, countAfter, Watched, watched}
 use Rattle.devices.specs.Requests.{afterStep, afterSteps, givesBytes, allGiveBytes, RequestCount}
-use Rattle.devices.proofs.Tables.{Like, like-tick, like-at, like-length, ticked-at, placed-here, placed-there}
+use Rattle.devices.proofs.Tables.{Like, tick-keeps, like-tick, like-at, like-length, ticked-at, placed-here}
+use Rattle.devices.proofs.Tables.{placed-there}
 use Rattle.devices.proofs.Loaded.{Sound, unloaded-sound, unloaded-none, loaded-sound, loaded-none}
 use Rattle.devices.proofs.Logs.{bytes-of}
 use Rattle.devices.proofs.Reaching as A
 use Rattle.devices.proofs.Reaching.{and-false}
-
--- the clock step touches nothing of setup
-tick-setup : (e : Endpoint) (t : ℕ) → afterTick e t .setup .requests ≡ e .setup .requests
-tick-setup e t = bcase (isExpired e t) (λ h. rw h) (λ h. rw h)
 
 sound-like : {d d′ : Device} → Like d′ d → Sound d → Sound d′
 sound-like {d} {d′} l s = record {
@@ -78,7 +76,7 @@ module _ (n : ℕ) (d : Device) (count : ℕ) (H : Held n d count) (t : ℕ) whe
   ticked = record {
     sound = sound-like (like-tick d t) (H .sound);
     same = ap (λ (e : Endpoint). e .setup .requests) (ticked-at d t n)
-        ∙ tick-setup (endpointAt (d .endpoints) n) t ∙ H .same;
+        ∙ ap (λ (s : Settings × ℕ). s .1) (tick-keeps (endpointAt (d .endpoints) n) t) ∙ H .same;
     most = H .most;
   }
 
@@ -128,11 +126,8 @@ module _ (n : ℕ) (d : Device) (count : ℕ) (H : Held n d count) (t : ℕ) whe
             subst (λ (r : Result). Held n (r .device) (countAfter n c r count))
             (sym (is ∙ A.reached d t by short k h)) x
 
-        counted : k < d .count
-        counted = ltb-true k (d .count) (and-left (ltb k (d .count)) (ltb k 8) (A.reached-tells d t by short k h .0))
-
         small : k < 8
-        small = ltb-true k 8 (and-right (ltb k (d .count)) (ltb k 8) (A.reached-tells d t by short k h .0))
+        small = A.reached-within d t by short k h
 
         still-sound : Sound (actedOf o t k d .device)
         still-sound = sound-like (A.reached-like d t by short k) (H .sound)
@@ -156,7 +151,7 @@ module _ (n : ℕ) (d : Device) (count : ℕ) (H : Held n d count) (t : ℕ) whe
             let i = eqb-true k n b in
             let kept : e .setup .requests ≡ count =
             ap (λ (j : ℕ). endpointAt (d .endpoints) j .setup .requests) i ∙ H .same in
-            let typed = step-laws .typed e t by (H .sound .fits k counted small) bytes in
+            let typed = step-laws .typed e t by (H .sound .fits k (A.reached-counted d t by short k h) small) bytes in
             let more = added (isRequestIn (readingOf (bytesOf (o .writes)))) count (requestsIn (o .writes))
             (count-back e (o .writes) (step-laws .carries e t by) typed) in
             let q : countAfter n c (actedOf o t k d) count ≡ o .endpoint .setup .requests =

@@ -13,7 +13,7 @@ use Rattle.endpoint.specs.declared.Settings.{Settings}
 use Rattle.endpoint.specs.declared.Endpoint.{Endpoint}
 use Rattle.endpoint.specs.Time.{isExpired, endedOf, afterTick}
 use Rattle.transitions.specs.ByCall.{freshOf}
-use Rattle.steps.proofs.Keeps.{bcase}
+use Rattle.steps.proofs.Keeps.{bcase, kept}
 use Rattle.device.specs.declared.Device.{Device}
 use Rattle.device.specs.declared.Entry.{Entry}
 use Rattle.device.specs.declared.Entry.the-variants.{Absent, At}
@@ -33,16 +33,18 @@ pub record Like (d d′ : Device) : Type 0 where
 pub like-trans : {d d′ d″ : Device} → Like d d′ → Like d′ d″ → Like d d″
 like-trans a b = record { counts = a .counts ∙ b .counts; settings = a .settings ∙ b .settings }
 
-pub tick-keeps : (e : Endpoint) (t : ℕ) → afterTick e t .settings ≡ e .settings
+-- the clock step keeps the settings, and the count of requests
+pub tick-keeps : (e : Endpoint) (t : ℕ) → kept (afterTick e t) ≡ kept e
 tick-keeps e t = go (isExpired e t)
   where
-    go : (b : Bool) → cond b (endedOf e) e .settings ≡ e .settings
+    go : (b : Bool) → kept (cond b (endedOf e) e) ≡ kept e
     go true = refl
     go false = refl
 
 sets-tick : (es : List Endpoint) (t : ℕ) → sets (map (λ (e : Endpoint). afterTick e t) es) ≡ sets es
 sets-tick [] t = refl
-sets-tick (e ∷ es) t = ap₂ (λ (s : Settings) (l : List Settings). s ∷ l) (tick-keeps e t) (sets-tick es t)
+sets-tick (e ∷ es) t = ap₂ (λ (s : Settings) (l : List Settings). s ∷ l)
+    (ap (λ (s : Settings × ℕ). s .0) (tick-keeps e t)) (sets-tick es t)
 
 pub like-tick : (d : Device) (t : ℕ) → Like (clockStep t d) d
 unfolding tickedAll

@@ -17,11 +17,11 @@ use Rattle.frame.specs.declared.Fault.the-variants.{Length, Copies, Chec
 use Rattle.frame.specs.declared.Reading.{Reading}
 use Rattle.frame.specs.declared.Reading.the-variants.{Frame, Refused}
 use Rattle.frame.specs.Words.{wordAt, wordBytes}
-use Rattle.frame.specs.Control.{bit, sessionOf, controlOf, hasForm}
+use Rattle.frame.specs.Control.{bit, subconnectionOf, controlOf, hasForm}
 use Rattle.frame.specs.Reading.{isFrameLength, same, hasCheckWord, fieldsIn, isFormed, readingOfCopies, readingOf}
 use Rattle.frame.specs.Writing.{timeOf, carryOf, headBytes, withCheckWord, twice, subBytes, frameBytes}
 use Rattle.frame.specs.Writing.{isWritable}
-use Rattle.frame.specs.RoundTrip.{SessionFits, Writable}
+use Rattle.frame.specs.RoundTrip.{SubconnectionFits, Writable}
 use Rattle.frame.proofs.Alike.{and-left, and-right, both, same-eq}
 use Rattle.frame.proofs.Lengths.{frame-length, slice-from}
 use Rattle.frame.proofs.Digits.{word-of}
@@ -79,9 +79,9 @@ drop-bytes (suc n) none = none
 drop-bytes (suc n) (more h r) = drop-bytes n r
 
 -- ---- a SubPDU of bytes, put together again from its words and its body
-session-fits : (b : Bool) (v : ℕ) → SessionFits (sessionOf b (v % 65536))
-session-fits true v = omega arith
-session-fits false v = tt
+subconnection-fits : (b : Bool) (v : ℕ) → SubconnectionFits (subconnectionOf b (v % 65536))
+subconnection-fits true v = omega arith
+subconnection-fits false v = tt
 
 module _ (a : List ℕ) (r : Bytes a) where
   four : (k : ℕ) → k + 4 ≤ length a
@@ -124,13 +124,13 @@ module _ (a : List ℕ) (r : Bytes a) where
         (and-right (hasForm (fieldsIn a)) _ (and-right (eqb (wordAt a 0) (controlOf (fieldsIn a))) _ g))
 
     pub typed : (fieldsIn a .connection < 2 ^ 32) × (fieldsIn a .baseline < 65536) × (fieldsIn a .timestamp < 2 ^ 48)
-        × SessionFits (fieldsIn a .session)
+        × SubconnectionFits (fieldsIn a .subconnection)
     unfolding fieldsIn
     typed = (
       word-lt 4,
       omega arith,
       omega (arith, word-lt 8, word-lt 12),
-      session-fits (bit 16 (wordAt a 0)) (wordAt a 0),
+      subconnection-fits (bit 16 (wordAt a 0)) (wordAt a 0),
     )
 
     body : List ℕ
@@ -199,7 +199,7 @@ module _ (s : List ℕ) (r : Bytes s) where
         typed = record {
           connection = t .0;
           baseline = t .1;
-          session = t .3;
+          subconnection = t .3;
           bytes = take-bytes (length a - 24) (drop-bytes 20 (take-bytes n r));
         };
         formed = both (form a (take-bytes n r) long (q .checked) (q .formed))

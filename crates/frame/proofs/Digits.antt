@@ -10,14 +10,14 @@ use borrow.Author.Tests.{eq-eqb, ne-eqb}
 use Rattle.frame.specs.declared.Command.{Command}
 use Rattle.frame.specs.declared.Command.the-variants.{Connect, ConfirmNetwork, VerifyStation, Disconnect}
 use Rattle.frame.specs.declared.Command.the-variants.{RefreshReady, RefreshGo, Refresh}
-use Rattle.frame.specs.declared.Session.{Session}
-use Rattle.frame.specs.declared.Session.the-variants.{Absent, Number}
+use Rattle.frame.specs.declared.Subconnection.{Subconnection}
+use Rattle.frame.specs.declared.Subconnection.the-variants.{Absent, Number}
 use Rattle.frame.specs.declared.Fields.{Fields}
 use Rattle.frame.specs.Words.{wordOf, wordBytes}
-use Rattle.frame.specs.Control.{codeOf, commandOf, sessionBits, sessionOf, bit, flag, controlOf}
+use Rattle.frame.specs.Control.{codeOf, commandOf, subconnectionBits, subconnectionOf, bit, flag, controlOf}
 use Rattle.frame.specs.Reading.{fieldsOf}
 use Rattle.frame.specs.Writing.{timeOf, carryOf}
-use Rattle.frame.specs.RoundTrip.{SessionFits}
+use Rattle.frame.specs.RoundTrip.{SubconnectionFits}
 
 -- ---- words
 pub of-word : (v : ℕ) → wordOf (v / 16777216) (v / 65536 % 256) (v / 256 % 256) (v % 256) ≡ v
@@ -71,33 +71,34 @@ bit-digit i v true e = eq-eqb (v / 2 ^ i % 2) 1 e
 bit-digit i v false e = ne-eqb (v / 2 ^ i % 2) 1 (λ (h : v / 2 ^ i % 2 ≡ 1). omega arith)
 
 -- ---- Sub CID
-session-lt : (s : Session) → SessionFits s → sessionBits s < 131072
-session-lt Absent h = omega arith
-session-lt (Number n) h = omega arith
+subconnection-lt : (s : Subconnection) → SubconnectionFits s → subconnectionBits s < 131072
+subconnection-lt Absent h = omega arith
+subconnection-lt (Number n) h = omega arith
 
-session-of-bits : (v : ℕ) (s : Session) → SessionFits s → v % 131072 ≡ sessionBits s
-    → sessionOf (bit 16 v) (v % 65536) ≡ s
+subconnection-of-bits : (v : ℕ) (s : Subconnection) → SubconnectionFits s → v % 131072 ≡ subconnectionBits s
+    → subconnectionOf (bit 16 v) (v % 65536) ≡ s
 unfolding digit
-session-of-bits v Absent h e = ap (λ (b : Bool). sessionOf b (v % 65536)) (bit-digit 16 v false (omega arith))
-session-of-bits v (Number n) h e =
+subconnection-of-bits v Absent h e =
+    ap (λ (b : Bool). subconnectionOf b (v % 65536)) (bit-digit 16 v false (omega arith))
+subconnection-of-bits v (Number n) h e =
     let k : v % 65536 ≡ n = omega arith in
     let q : v / 2 ^ 16 ≡ v / 131072 * 2 + 1 = omega arith in
-    ap₂ sessionOf (bit-digit 16 v true (ap (λ (m : ℕ). m % 2) q ∙ digits-mod (v / 131072) (lit< tt))) k
+    ap₂ subconnectionOf (bit-digit 16 v true (ap (λ (m : ℕ). m % 2) q ∙ digits-mod (v / 131072) (lit< tt))) k
 
 -- ---- CTRL: its parts are digits of one number
 record Parts (v : ℕ) (f : Fields) : Type 0 where
   sum : v ≡ 16777216 * codeOf (f .command) +
       (8388608 * digit (f .ack) + (4194304 * digit (f .busy) + (2097152 * digit (f .error)
-      + (1048576 * digit (f .sequence) + (262144 * digit (f .application) + sessionBits (f .session))))))
+      + (1048576 * digit (f .sequence) + (262144 * digit (f .application) + subconnectionBits (f .subconnection))))))
   code : codeOf (f .command) ≤ 255
   ack : digit (f .ack) ≤ 1
   busy : digit (f .busy) ≤ 1
   error : digit (f .error) ≤ 1
   sequence : digit (f .sequence) ≤ 1
   application : digit (f .application) ≤ 1
-  session : sessionBits (f .session) < 131072
+  subconnection : subconnectionBits (f .subconnection) < 131072
 
-parts : (f : Fields) → SessionFits (f .session) → Parts (controlOf f) f
+parts : (f : Fields) → SubconnectionFits (f .subconnection) → Parts (controlOf f) f
 unfolding controlOf
 parts f h = record {
   sum = rw (
@@ -114,11 +115,11 @@ parts f h = record {
   error = digit-le (f .error);
   sequence = digit-le (f .sequence);
   application = digit-le (f .application);
-  session = session-lt (f .session) h;
+  subconnection = subconnection-lt (f .subconnection) h;
 }
 
 -- ---- the fields of the words that fields are written as
-pub fields-of-words : (f : Fields) → SessionFits (f .session) → f .baseline < 65536
+pub fields-of-words : (f : Fields) → SubconnectionFits (f .subconnection) → f .baseline < 65536
     → fieldsOf (controlOf f) (f .connection) (timeOf f) (carryOf f) ≡ f
 fields-of-words f h b =
     let v : ℕ = controlOf f in
@@ -130,7 +131,7 @@ fields-of-words f h b =
     let e = bit-digit 21 v (f .error) (omega arith) in
     let q = bit-digit 20 v (f .sequence) (omega arith) in
     let n = bit-digit 18 v (f .application) (omega arith) in
-    let s = session-of-bits v (f .session) h (omega arith) in
+    let s = subconnection-of-bits v (f .subconnection) h (omega arith) in
     let t : 65536 * carryOf f + timeOf f / 65536 ≡ f .timestamp = omega arith in
     let o : timeOf f % 65536 ≡ f .baseline = omega arith in
     λ i. record {
@@ -140,7 +141,7 @@ fields-of-words f h b =
       error = e i;
       sequence = q i;
       application = n i;
-      session = s i;
+      subconnection = s i;
       connection = f .connection;
       timestamp = t i;
       baseline = o i;

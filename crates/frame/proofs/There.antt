@@ -69,7 +69,8 @@ module _ (f : Fields) (body : List ℕ) (w : Writable f body) where
 
   fields : fieldsIn sub ≡ f
   unfolding fieldsIn
-  fields = (λ i. fieldsOf (w0 i) (w4 i) (w8 i) (w12 i)) ∙ fields-of-words f (w .typed .session) (w .typed .baseline)
+  fields = (λ i. fieldsOf (w0 i) (w4 i) (w8 i) (w12 i))
+      ∙ fields-of-words f (w .typed .subconnection) (w .typed .baseline)
 
   formed : isFormed (wordAt sub 0) (wordAt sub 16) (fieldsIn sub) ≡ true
   formed = (λ i. isFormed (w0 i) (w16 i) (fields i))

@@ -5,8 +5,8 @@ use lib.Dec.{eqb}
 use Rattle.frame.specs.declared.Command.{Command}
 use Rattle.frame.specs.declared.Command.the-variants.{Connect, ConfirmNetwork, VerifyStation, Disconnect}
 use Rattle.frame.specs.declared.Command.the-variants.{RefreshReady, RefreshGo, Refresh}
-use Rattle.frame.specs.declared.Session.{Session}
-use Rattle.frame.specs.declared.Session.the-variants.{Absent, Number}
+use Rattle.frame.specs.declared.Subconnection.{Subconnection}
+use Rattle.frame.specs.declared.Subconnection.the-variants.{Absent, Number}
 use Rattle.frame.specs.declared.Fields.{Fields}
 
 -- Cmd
@@ -33,15 +33,15 @@ abbrev pub is : Command → Command → Bool
 is a b = eqb (codeOf a) (codeOf b)
 
 -- Sub CID active, bit 16, and Sub CID
-abbrev pub sessionBits : Session → ℕ
-sessionBits Absent = 0
-sessionBits (Number n) = 65536 + n
+abbrev pub subconnectionBits : Subconnection → ℕ
+subconnectionBits Absent = 0
+subconnectionBits (Number n) = 65536 + n
 
-abbrev pub sessionOf : Bool → ℕ → Session
-sessionOf true n = Number n
-sessionOf false n = Absent
+abbrev pub subconnectionOf : Bool → ℕ → Subconnection
+subconnectionOf true n = Number n
+subconnectionOf false n = Absent
 
-abbrev pub isAbsent : Session → Bool
+abbrev pub isAbsent : Subconnection → Bool
 isAbsent Absent = true
 isAbsent (Number n) = false
 
@@ -62,7 +62,7 @@ controlOf f =
     + (flag (f .error) 2097152
     + (flag (f .sequence) 1048576
     + (flag (f .application) 262144
-    + sessionBits (f .session))))))
+    + subconnectionBits (f .subconnection))))))
 
 -- Ack: in replies only; S-Refresh and S-Disconnect have none
 abbrev pub ackFits : Fields → Bool
@@ -90,7 +90,7 @@ baselineFits f = eqb (f .baseline) 0 || (is (f .command) RefreshGo && not (f .ac
 
 -- Offset op seq and Sub CID are not used
 abbrev pub restIsZero : Fields → Bool
-restIsZero f = not (f .sequence) && isAbsent (f .session)
+restIsZero f = not (f .sequence) && isAbsent (f .subconnection)
 
 -- the form rule on fields
 unfoldable pub hasForm : Fields → Bool

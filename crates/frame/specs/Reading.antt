@@ -11,7 +11,7 @@ use Rattle.frame.specs.declared.Fault.the-variants.{Length, Copies, Chec
 use Rattle.frame.specs.declared.Reading.{Reading}
 use Rattle.frame.specs.declared.Reading.the-variants.{Frame, Refused}
 use Rattle.frame.specs.Words.{wordAt}
-use Rattle.frame.specs.Control.{bit, commandOf, sessionOf, controlOf, hasForm}
+use Rattle.frame.specs.Control.{bit, commandOf, subconnectionOf, controlOf, hasForm}
 
 -- 56, 64, .. 248
 abbrev pub isFrameLength : ℕ → Bool
@@ -36,7 +36,7 @@ fieldsOf control cid time cc = record {
   error = bit 21 control;
   sequence = bit 20 control;
   application = bit 18 control;
-  session = sessionOf (bit 16 control) (control % 65536);
+  subconnection = subconnectionOf (bit 16 control) (control % 65536);
   connection = cid;
   timestamp = 65536 * cc + time / 65536;
   baseline = time % 65536;

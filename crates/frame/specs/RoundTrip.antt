@@ -6,22 +6,22 @@ use Prim.Native.Nat.{ℕ, _+_, _^_, _≤_, _<_}
 use lib.ListN.{length, take}
 use lib.Seq.{slice}
 pub use Rattle.crc.specs.Bytes.{Bytes, none, more}
-use Rattle.frame.specs.declared.Session.{Session}
-use Rattle.frame.specs.declared.Session.the-variants.{Absent, Number}
+use Rattle.frame.specs.declared.Subconnection.{Subconnection}
+use Rattle.frame.specs.declared.Subconnection.the-variants.{Absent, Number}
 use Rattle.frame.specs.declared.Fields.{Fields}
 use Rattle.frame.specs.declared.Reading.the-variants.{Frame}
 use Rattle.frame.specs.Reading.{readingOf}
 use Rattle.frame.specs.Writing.{isWritable, frameBytes, WriteSays}
 
 -- the numbers are within their types: CID of 32 bits, OBL and Sub CID of 16, bytes
-abbrev pub SessionFits : Session → Type 0
-SessionFits Absent = Unit {0}
-SessionFits (Number n) = n < 65536
+abbrev pub SubconnectionFits : Subconnection → Type 0
+SubconnectionFits Absent = Unit {0}
+SubconnectionFits (Number n) = n < 65536
 
 pub record Typed (f : Fields) (body : List ℕ) : Type 0 where
   pub connection : f .connection < 2 ^ 32
   pub baseline : f .baseline < 65536
-  pub session : SessionFits (f .session)
+  pub subconnection : SubconnectionFits (f .subconnection)
   pub bytes : Bytes body
 
 pub record Writable (f : Fields) (body : List ℕ) : Type 0 where

@@ -1,11 +1,11 @@
 // CTRL: a command's code, the word of the fields, and the form rule.
 ghost use mathlib.Core.Path.{_≡_};
 ghost use Prim.Native.Nat.{_≤_, _<_};
-ghost use Rattle.frame.specs.Control.{codeOf, commandOf, is, sessionBits, sessionOf, isAbsent, flag, controlOf};
-ghost use Rattle.frame.specs.Control.{mayBeBusy, hasForm};
+ghost use Rattle.frame.specs.Control.{codeOf, commandOf, is, subconnectionBits, subconnectionOf, isAbsent, flag};
+ghost use Rattle.frame.specs.Control.{controlOf, mayBeBusy, hasForm};
 use super::Command;
 use super::Fields;
-use super::Session;
+use super::Subconnection;
 
 fn code_of(command: Command) -> u32
     ensures { λ r. ⌜ (r ≡ codeOf command) × (r ≤ 255) ⌝ }
@@ -53,31 +53,31 @@ pub fn is(a: Command, b: Command) -> bool
     code_of(a) == code_of(b)
 }
 
-fn session_bits(session: Session) -> u32
-    ensures { λ r. ⌜ (r ≡ sessionBits session) × (r < 131072) ⌝ }
+fn subconnection_bits(subconnection: Subconnection) -> u32
+    ensures { λ r. ⌜ (r ≡ subconnectionBits subconnection) × (r < 131072) ⌝ }
 {
-    match session {
-        Session::Absent => 0,
-        Session::Number(n) => 65536 + (n as u32),
+    match subconnection {
+        Subconnection::Absent => 0,
+        Subconnection::Number(n) => 65536 + (n as u32),
     }
 }
 
-pub(crate) fn session_of(active: bool, number: u16) -> Session
-    ensures { λ r. ⌜ r ≡ sessionOf active number ⌝ }
+pub(crate) fn subconnection_of(active: bool, number: u16) -> Subconnection
+    ensures { λ r. ⌜ r ≡ subconnectionOf active number ⌝ }
 {
     if active {
-        Session::Number(number)
+        Subconnection::Number(number)
     } else {
-        Session::Absent
+        Subconnection::Absent
     }
 }
 
-fn is_absent(session: Session) -> bool
-    ensures { λ r. ⌜ r ≡ isAbsent session ⌝ }
+fn is_absent(subconnection: Subconnection) -> bool
+    ensures { λ r. ⌜ r ≡ isAbsent subconnection ⌝ }
 {
-    match session {
-        Session::Absent => true,
-        Session::Number(_) => false,
+    match subconnection {
+        Subconnection::Absent => true,
+        Subconnection::Number(_) => false,
     }
 }
 
@@ -93,13 +93,13 @@ pub(crate) fn control_of(f: Fields) -> u32
     ensures { λ r. ⌜ r ≡ controlOf f ⌝ }
 {
     let command = f.command;
-    let session = f.session;
+    let subconnection = f.subconnection;
     16777216 * code_of(command)
         + (flag(f.ack, 8388608)
             + (flag(f.busy, 4194304)
                 + (flag(f.error, 2097152)
                     + (flag(f.sequence, 1048576)
-                        + (flag(f.application, 262144) + session_bits(session))))))
+                        + (flag(f.application, 262144) + subconnection_bits(subconnection))))))
 }
 
 // Whether a command's reply may have Busy 1.
@@ -114,7 +114,7 @@ pub(crate) fn has_form(f: Fields) -> bool
     ensures { λ r. ⌜ r ≡ hasForm f ⌝ }
 {
     let command = f.command;
-    let session = f.session;
+    let subconnection = f.subconnection;
     let refresh = is(command, Command::Refresh);
     let disconnect = is(command, Command::Disconnect);
     let go = is(command, Command::RefreshGo);
@@ -124,6 +124,6 @@ pub(crate) fn has_form(f: Fields) -> bool
     let busy_fits = !f.busy | (f.ack & may_be_busy);
     let error_fits = !f.error | f.ack;
     let baseline_fits = (f.baseline == 0) | (go & !f.ack);
-    let rest_is_zero = !f.sequence & is_absent(session);
+    let rest_is_zero = !f.sequence & is_absent(subconnection);
     ack_fits & (application_fits & (busy_fits & (error_fits & (baseline_fits & rest_is_zero))))
 }

@@ -25,7 +25,7 @@ pub enum Command {
 }
 
 // Sub CID active, bit 16 of CTRL, and Sub CID, bits 15 to 0.
-pub enum Session {
+pub enum Subconnection {
     Absent,
     Number(u16),
 }
@@ -40,7 +40,7 @@ pub struct Fields {
     pub sequence: bool,
     // Application: 0 from a master, 1 from a slave
     pub application: bool,
-    pub session: Session,
+    pub subconnection: Subconnection,
     // CID
     pub connection: u32,
     // 48 bits: CC the upper 32, T code the lower 16

@@ -10,7 +10,7 @@ use super::Reading;
 use super::control::command_of;
 use super::control::control_of;
 use super::control::has_form;
-use super::control::session_of;
+use super::control::subconnection_of;
 use super::words::word_at;
 
 fn is_frame_length(n: usize) -> bool
@@ -54,7 +54,7 @@ fn fields_of(control: u32, cid: u32, time: u32, cc: u32) -> Fields
         error: control / 2097152 % 2 == 1,
         sequence: control / 1048576 % 2 == 1,
         application: control / 262144 % 2 == 1,
-        session: session_of(control / 65536 % 2 == 1, (control % 65536) as u16),
+        subconnection: subconnection_of(control / 65536 % 2 == 1, (control % 65536) as u16),
         connection: cid,
         timestamp: 65536 * (cc as u64) + (time / 65536) as u64,
         baseline: (time % 65536) as u16,

@@ -12,10 +12,10 @@ use lib.ListN.{length, length-append, List·getD-append}
 use lib.Seq.{getD-append-seam}
 use borrow.Author.Tests.{eqb-true}
 use Rattle.frame.specs.declared.Command.{Command}
-use Rattle.frame.specs.declared.Session.{Session}
-use Rattle.frame.specs.declared.Session.the-variants.{Absent, Number}
+use Rattle.frame.specs.declared.Subconnection.{Subconnection}
+use Rattle.frame.specs.declared.Subconnection.the-variants.{Absent, Number}
 use Rattle.frame.specs.declared.Fields.{Fields}
-use Rattle.frame.specs.Control.{codeOf, commandOf, is, sessionBits}
+use Rattle.frame.specs.Control.{codeOf, commandOf, is, subconnectionBits}
 use Rattle.frame.specs.Reading.{same}
 use Rattle.frame.proofs.Alike.{and-left, and-right, same-eq}
 use Rattle.frame.proofs.Digits.{command-of-code}
@@ -71,12 +71,14 @@ beq-eq false false h = refl
 pub is-eq : (a b : Command) → is a b ≡ true → a ≡ b
 is-eq a b h = sym (command-of-code a) ∙ ap commandOf (eqb-true (codeOf a) (codeOf b) h) ∙ command-of-code b
 
-session-eq : (a b : Session) → eqb (sessionBits a) (sessionBits b) ≡ true → a ≡ b
-session-eq Absent Absent h = refl
-session-eq Absent (Number n) h = let z = eqb-true 0 (65536 + n) h in absurd (omega arith)
-session-eq (Number n) Absent h = let z = eqb-true (65536 + n) 0 h in absurd (omega arith)
-session-eq (Number n) (Number m) h = let z = eqb-true (65536 + n) (65536 + m) h in let y : n ≡ m = omega arith in ap
-    Number y
+subconnection-eq : (a b : Subconnection) → eqb (subconnectionBits a) (subconnectionBits b) ≡ true → a ≡ b
+subconnection-eq Absent Absent h = refl
+subconnection-eq Absent (Number n) h = let z = eqb-true 0 (65536 + n) h in absurd (omega arith)
+subconnection-eq (Number n) Absent h = let z = eqb-true (65536 + n) 0 h in absurd (omega arith)
+subconnection-eq (Number n) (Number m) h =
+    let z = eqb-true (65536 + n) (65536 + m) h in
+    let y : n ≡ m = omega arith in
+    ap Number y
 
 pub fields-eq : (f g : Fields) → sameFields f g ≡ true → f ≡ g
 unfolding sameFields
@@ -87,7 +89,7 @@ fields-eq f g h =
     let h4 = and-right (Bool·beq (f .error) (g .error)) _ h3 in
     let h5 = and-right (Bool·beq (f .sequence) (g .sequence)) _ h4 in
     let h6 = and-right (Bool·beq (f .application) (g .application)) _ h5 in
-    let h7 = and-right (eqb (sessionBits (f .session)) (sessionBits (g .session))) _ h6 in
+    let h7 = and-right (eqb (subconnectionBits (f .subconnection)) (subconnectionBits (g .subconnection))) _ h6 in
     let h8 = and-right (eqb (f .connection) (g .connection)) _ h7 in
     let h9 = and-right (eqb (f .timestamp) (g .timestamp)) _ h8 in
     let p0 = is-eq (f .command) (g .command) (and-left (is (f .command) (g .command)) _ h) in
@@ -96,8 +98,8 @@ fields-eq f g h =
     let p3 = beq-eq (f .error) (g .error) (and-left (Bool·beq (f .error) (g .error)) _ h3) in
     let p4 = beq-eq (f .sequence) (g .sequence) (and-left (Bool·beq (f .sequence) (g .sequence)) _ h4) in
     let p5 = beq-eq (f .application) (g .application) (and-left (Bool·beq (f .application) (g .application)) _ h5) in
-    let p6 = session-eq (f .session) (g .session)
-    (and-left (eqb (sessionBits (f .session)) (sessionBits (g .session))) _ h6) in
+    let p6 = subconnection-eq (f .subconnection) (g .subconnection)
+    (and-left (eqb (subconnectionBits (f .subconnection)) (subconnectionBits (g .subconnection))) _ h6) in
     let p7 = eqb-true (f .connection) (g .connection) (and-left (eqb (f .connection) (g .connection)) _ h7) in
     let p8 = eqb-true (f .timestamp) (g .timestamp) (and-left (eqb (f .timestamp) (g .timestamp)) _ h8) in
     let p9 = eqb-true (f .baseline) (g .baseline) h9 in
@@ -108,7 +110,7 @@ fields-eq f g h =
       error = p3 i;
       sequence = p4 i;
       application = p5 i;
-      session = p6 i;
+      subconnection = p6 i;
       connection = p7 i;
       timestamp = p8 i;
       baseline = p9 i;

@@ -8,7 +8,7 @@ use lib.Dec.{eqb, leb}
 use lib.ListN.{length, getD}
 use Rattle.frame.specs.declared.Command.the-variants as K
 use Rattle.frame.specs.declared.Fields.{Fields}
-use Rattle.frame.specs.Control.{is, sessionBits}
+use Rattle.frame.specs.Control.{is, subconnectionBits}
 use Rattle.frame.specs.Reading.{same}
 use Rattle.endpoint.specs.declared.Settings.{Settings}
 use Rattle.endpoint.specs.declared.Endpoint.{Endpoint}
@@ -88,7 +88,7 @@ sameFields f g =
     && (Bool·beq (f .error) (g .error)
     && (Bool·beq (f .sequence) (g .sequence)
     && (Bool·beq (f .application) (g .application)
-    && (eqb (sessionBits (f .session)) (sessionBits (g .session))
+    && (eqb (subconnectionBits (f .subconnection)) (subconnectionBits (g .subconnection))
     && (eqb (f .connection) (g .connection)
     && (eqb (f .timestamp) (g .timestamp)
     && eqb (f .baseline) (g .baseline)))))))))

@@ -47,7 +47,7 @@ sent-typed : (k : Command) (application : Bool) (connection timestamp baseline :
     → connection < 2 ^ 32 → baseline < 65536 → Bytes body
     → Typed (sentFields k application connection timestamp baseline) body
 sent-typed k application connection timestamp baseline body c b r =
-    record { connection = c; baseline = b; session = tt; bytes = r }
+    record { connection = c; baseline = b; subconnection = tt; bytes = r }
 
 -- OBL has 16 bits
 baseline-fits : (k : Command) (t measured : ℕ) → baselineOf k t measured < 65536
@@ -82,7 +82,7 @@ module _ (e : Endpoint) (t : ℕ) where
   replied-typed f body h r =
       let a = firstOf (requestFaults e f body) in
       bcase (isDropped a || is (f .command) K.Disconnect) (λ d. rw d tt)
-      (λ d. rw d (record { connection = h .connection; baseline = lit< tt; session = tt; bytes = r }))
+      (λ d. rw d (record { connection = h .connection; baseline = lit< tt; subconnection = tt; bytes = r }))
 
   pub deliver-typed : (f : Fields) (body : List ℕ) → SettingsFit (e .settings) → Bytes body
       → IsTyped (deliverOf e t f body .writes)

@@ -5,7 +5,7 @@ use Prim.Native.Nat.{ℕ, _+_, _-_, _*_, _%_}
 use lib.Dec.{leb}
 use Rattle.frame.specs.declared.Command.{Command}
 use Rattle.frame.specs.declared.Command.the-variants as K
-use Rattle.frame.specs.declared.Session.the-variants.{Absent}
+use Rattle.frame.specs.declared.Subconnection.the-variants.{Absent}
 use Rattle.frame.specs.declared.Fields.{Fields}
 use Rattle.frame.specs.Words.{wordBytes}
 use Rattle.frame.specs.Control.{is}
@@ -62,7 +62,7 @@ sentFields k application connection timestamp baseline = record {
   error = false;
   sequence = false;
   application = application;
-  session = Absent;
+  subconnection = Absent;
   connection = connection;
   timestamp = timestamp;
   baseline = baseline;
@@ -77,7 +77,7 @@ ackFields k busy error connection timestamp = record {
   error = error;
   sequence = false;
   application = true;
-  session = Absent;
+  subconnection = Absent;
   connection = connection;
   timestamp = timestamp;
   baseline = 0;

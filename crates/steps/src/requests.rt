@@ -16,7 +16,7 @@ use endpoint::time::passed;
 use endpoint::time::stamp_of;
 use frame::Command;
 use frame::Fields;
-use frame::Session;
+use frame::Subconnection;
 
 // The data of a setup request: the first length bytes.
 pub struct SetupData {
@@ -125,7 +125,7 @@ fn sent_fields(
         error: false,
         sequence: false,
         application: application,
-        session: Session::Absent,
+        subconnection: Subconnection::Absent,
         connection: connection,
         timestamp: timestamp,
         baseline: baseline,
@@ -188,7 +188,7 @@ pub(crate) fn reply_fields(e: Endpoint, f: Fields, busy: bool, error: bool) -> F
         error: error,
         sequence: false,
         application: true,
-        session: Session::Absent,
+        subconnection: Subconnection::Absent,
         connection: e.settings.connection,
         timestamp: f.timestamp % 281474976710656,
         baseline: 0,

@@ -5,7 +5,7 @@ mod readying;
 
 use frame::Command;
 use frame::Fields;
-use frame::Session;
+use frame::Subconnection;
 use libc::STDOUT_FILENO;
 
 // A line: the name, and the check word of the bytes, top byte first.
@@ -150,7 +150,7 @@ fn connect() -> Fields {
         error: false,
         sequence: false,
         application: false,
-        session: Session::Absent,
+        subconnection: Subconnection::Absent,
         connection: 0x01020103,
         timestamp: 1000,
         baseline: 0,
@@ -165,7 +165,7 @@ fn refresh() -> Fields {
         error: false,
         sequence: false,
         application: true,
-        session: Session::Absent,
+        subconnection: Subconnection::Absent,
         connection: 0x01020103,
         timestamp: 65540,
         baseline: 0,

@@ -13,7 +13,7 @@ returns c =
     let c2 = c3 .before in
     let c1 = c2 .before in
     rw (
-      c .session-bits .ensures .0,
+      c .subconnection-bits .ensures .0,
       c5 .flag5 .ensures .0,
       c4 .flag4 .ensures .0,
       c3 .flag3 .ensures .0,

@@ -4,7 +4,7 @@ use Rattle.frame.proofs.read.fields_of.Statement.{statement}
 use Rattle.frame.proofs.read.fields_of.Tie as tie
 
 returns : tie.Need-returns
-returns c = rw (c .session-of .ensures, c .before .command-of .ensures)
+returns c = rw (c .subconnection-of .ensures, c .before .command-of .ensures)
 
 pub fields-of-spec : {M : Type 1} → statement M
 fields-of-spec =
