@@ -22,6 +22,7 @@ use Rattle.endpoint.specs.Answers.{numberOf}
 use Rattle.endpoint.specs.Table.{stateNumber}
 use Rattle.endpoint.specs.Updates.{inState, timedFrom, withTimestamps, withSetup, withPending, withRequests}
 use Rattle.endpoint.specs.Updates.{withNotReady}
+use Rattle.endpoint.specs.TCode.{tCodeOf, ccOf, slaveTime}
 use Rattle.transitions.specs.ByCall.{freshOf}
 use Rattle.steps.specs.Frames.{Written, nothing, written, setupData, sentFields, ackFields, refreshFields, replyFields}
 use Rattle.steps.specs.Calls.{Outcome, startOf, restartOf, sendOf, stopOf}
@@ -153,6 +154,11 @@ cases =
     -- ts_offset, and what the slave sending at 6,100 stamps
     ∷ case (ready .setup .offset) 281474976705676
     ∷ case (refreshFields ready 6100 .timestamp) 1120
+    -- both in the standard's words; and the highest clock and ts_offset that the code can be handed
+    ∷ case (tCodeOf 65530 10) 4
+    ∷ case (ccOf 65530 10) 1
+    ∷ case (slaveTime 6100 281474976705676) 1120
+    ∷ case (slaveTime 18446744073709551615 18446744073709551615) 281474976710654
     -- with R = 50 the master at 1,105 counts age 0; at 1,069 number 14, at 1,070 age 0
     ∷ case (refreshAt (endpointIn ageless Refresh 1040 1030 0) 1105 1120) 0
     ∷ case (refreshAt (endpointIn ageless Refresh 1040 1030 0) 1069 1120) 14

@@ -1,3 +1,3 @@
 -- Laws that serve several functions.
 pub mod Entries
-pub mod Sums
+pub mod TCode

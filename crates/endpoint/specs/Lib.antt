@@ -3,3 +3,4 @@ pub mod Answers
 pub mod Table
 pub mod Updates
 pub mod Time
+pub mod TCode

@@ -28,7 +28,8 @@ lastReading = 281474976645119
 abbrev pub minus : ℕ → ℕ → ℕ
 minus a b = (a + (span - b % span)) % span
 
--- an endpoint's time t in the master's clock: what it stamps with, and what it reckons ages by
+-- an endpoint's time t in the master's clock: what it stamps with, and what it reckons ages by; a slave's in the
+-- standard's words is slaveTime in TCode
 abbrev pub masterTime : Bool → ℕ → ℕ → ℕ
 masterTime slave offset t = (t + cond slave offset 0) % span
 

@@ -2,6 +2,7 @@
 // and the answers that calls on it get. The calls themselves are in the crate steps.
 
 pub mod answers;
+mod t_code;
 pub mod table;
 pub mod time;
 

@@ -1,13 +1,14 @@
 // Clocks, timestamps and ages, and the clock step.
 ghost use mathlib.Core.Path.{_≡_};
-ghost use Prim.Native.Nat.{_-_, _+_, _%_};
-ghost use Rattle.endpoint.specs.Time.{span, minus, masterTime, isAbove, isTooFarAhead, allowanceOf, isTooLate};
+ghost use Prim.Native.Nat.{_-_};
+ghost use Rattle.endpoint.specs.Time.{minus, masterTime, isAbove, isTooFarAhead, allowanceOf, isTooLate};
 ghost use Rattle.endpoint.specs.Time.{offsetFrom, isOver, isExpired, noValue, endedOf, afterTick, timeOf};
 use super::Endpoint;
 use super::Settings;
 use super::State;
 use super::Timestamp;
 use super::Value;
+use super::t_code::slave_time;
 use super::table::is_setup;
 use super::table::is_state;
 
@@ -31,51 +32,21 @@ pub fn minus(a: u64, b: u64) -> u64
     }
 }
 
-// A slave's clock in the master's, in the order of 001's 12.7.1.4: the T code by a sum of 16 bits, its carry into CC.
-fn slave_timestamp(clock: u64, offset: u64) -> u64
-    ensures { λ r. ⌜ r ≡ (clock + offset) % span ⌝ }
-{
-    let low = (clock % 65536) as u16;
-    let code = std::num::wrapping_add_u16(low, (offset % 65536) as u16);
-    let high = clock / 65536 + offset / 65536;
-    if code < low {
-        return 65536 * ((high + 1) % 4294967296) + (code as u64);
-    }
-    65536 * (high % 4294967296) + (code as u64)
-}
-
-// An endpoint's clock in the master's, to reckon an age by.
+// An endpoint's clock in the master's: what it stamps with, and what it reckons ages by.
 fn master_time(slave: bool, offset: u64, clock: u64) -> u64
     ensures { λ r. ⌜ r ≡ masterTime slave offset clock ⌝ }
 {
     if slave {
-        return std::num::wrapping_add_u64(clock, offset) % 281474976710656;
+        return slave_time(clock, offset);
     }
     clock % 281474976710656
 }
 
-// The timestamp of what an endpoint sends.
-fn timestamp(slave: bool, offset: u64, clock: u64) -> u64
-    ensures { λ r. ⌜ r ≡ masterTime slave offset clock ⌝ }
-{
-    if slave {
-        return slave_timestamp(clock, offset);
-    }
-    clock % 281474976710656
-}
-
-// The endpoint's time in the master's clock, to reckon an age by.
+// The same, of the endpoint at its clock reading.
 pub fn time_of(e: Endpoint, clock: u64) -> u64
     ensures { λ r. ⌜ r ≡ timeOf e clock ⌝ }
 {
     master_time(e.settings.slave, e.setup.offset, clock)
-}
-
-// The same, as the timestamp of a frame to be sent.
-pub fn stamp_of(e: Endpoint, clock: u64) -> u64
-    ensures { λ r. ⌜ r ≡ timeOf e clock ⌝ }
-{
-    timestamp(e.settings.slave, e.setup.offset, clock)
 }
 
 pub fn is_above(last: Timestamp, stamp: u64) -> bool

@@ -16,7 +16,7 @@ use endpoint::answers::first_of;
 use endpoint::answers::is_dropped;
 use endpoint::table::is_state;
 use endpoint::time::is_above;
-use endpoint::time::stamp_of;
+use endpoint::time::time_of;
 use frame::Command;
 use transitions::by_call::restarted;
 use transitions::by_call::started;
@@ -61,7 +61,7 @@ fn stop_answer(e: Endpoint, clock: u64) -> Answer
     let timestamps = e.timestamps;
     let sent = timestamps.sent;
     let turn = is_state(state, State::Close) | is_state(state, State::Terminate);
-    let stamp = stamp_of(e, clock);
+    let stamp = time_of(e, clock);
     let soon = !e.settings.slave & !is_above(sent, stamp);
     first_of(Faults {
         turn: turn,

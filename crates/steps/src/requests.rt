@@ -13,7 +13,7 @@ use endpoint::Endpoint;
 use endpoint::Settings;
 use endpoint::table::request_of;
 use endpoint::time::passed;
-use endpoint::time::stamp_of;
+use endpoint::time::time_of;
 use frame::Command;
 use frame::Fields;
 use frame::Subconnection;
@@ -147,7 +147,7 @@ pub(crate) fn request_fields(e: Endpoint, clock: u64) -> Fields
 {
     let state = e.state;
     let k = request_of(state);
-    let stamp = stamp_of(e, clock);
+    let stamp = time_of(e, clock);
     sent_fields(
         k,
         false,
@@ -160,7 +160,7 @@ pub(crate) fn request_fields(e: Endpoint, clock: u64) -> Fields
 pub(crate) fn refresh_fields(e: Endpoint, clock: u64) -> Fields
     ensures { λ r. ⌜ r ≡ refreshFields e clock ⌝ }
 {
-    let stamp = stamp_of(e, clock);
+    let stamp = time_of(e, clock);
     sent_fields(
         Command::Refresh,
         e.settings.slave,
@@ -173,7 +173,7 @@ pub(crate) fn refresh_fields(e: Endpoint, clock: u64) -> Fields
 pub(crate) fn disconnect_fields(e: Endpoint, clock: u64) -> Fields
     ensures { λ r. ⌜ r ≡ disconnectFields e clock ⌝ }
 {
-    let stamp = stamp_of(e, clock);
+    let stamp = time_of(e, clock);
     sent_fields(Command::Disconnect, false, e.settings.connection, stamp, 0)
 }
 

@@ -25,7 +25,7 @@ use endpoint::table::is_state;
 use endpoint::table::request_of;
 use endpoint::time::ended;
 use endpoint::time::is_above;
-use endpoint::time::stamp_of;
+use endpoint::time::time_of;
 use transitions::by_call::is_exhausted;
 use transitions::by_call::refresh_sent;
 use transitions::by_call::requested;
@@ -60,7 +60,7 @@ fn send_answer(e: Endpoint, clock: u64, width: usize) -> Answer
     let may = may_request(e);
     let exhausted = is_exhausted(e);
     let due = send_width(settings);
-    let stamp = stamp_of(e, clock);
+    let stamp = time_of(e, clock);
     let above = is_above(sent, stamp);
     first_of(Faults {
         turn: !(refresh | may),

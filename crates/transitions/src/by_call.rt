@@ -13,7 +13,7 @@ use endpoint::Timestamp;
 use endpoint::Timestamps;
 use endpoint::table::request_of;
 use endpoint::time::no_value;
-use endpoint::time::stamp_of;
+use endpoint::time::time_of;
 use frame::Command;
 use frame::control::is;
 
@@ -117,7 +117,7 @@ pub fn requested(e: Endpoint, clock: u64) -> Endpoint
     let state = e.state;
     let station = e.station;
     let value = e.value;
-    let stamp = stamp_of(e, clock);
+    let stamp = time_of(e, clock);
     let timestamps = stamped(e, stamp);
     let requests = counted(e, request_of(state));
     Endpoint {
@@ -144,7 +144,7 @@ pub fn refresh_sent(e: Endpoint, clock: u64) -> Endpoint
     let setup = e.setup;
     let station = e.station;
     let value = e.value;
-    let timestamps = stamped(e, stamp_of(e, clock));
+    let timestamps = stamped(e, time_of(e, clock));
     Endpoint {
         settings: settings,
         state: state,
@@ -163,7 +163,7 @@ fn stop_stamps(e: Endpoint, clock: u64) -> Timestamps
         let timestamps = e.timestamps;
         return timestamps;
     }
-    stamped(e, stamp_of(e, clock))
+    stamped(e, time_of(e, clock))
 }
 
 pub fn stopped(e: Endpoint, clock: u64) -> Endpoint

@@ -9,7 +9,7 @@ returns c =
     rw (
       c .first-of .ensures,
       c .before .is-above .ensures,
-      s .stamp-of .ensures,
+      s .time-of .ensures,
       s .before .is-state2 .ensures,
       s .before .before .is-state .ensures,
     )

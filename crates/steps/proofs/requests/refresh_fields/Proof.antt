@@ -9,4 +9,4 @@ refresh-fields-spec =
     (tie.spec
     (λ c κs. search needs)
     (λ c κs. search needs)
-    (λ c. rw (c .sent-fields .ensures, c .before .stamp-of .ensures)))
+    (λ c. rw (c .sent-fields .ensures, c .before .time-of .ensures)))

@@ -7,7 +7,7 @@ returns : tie.Need-returns
 returns c =
     let b = c .before in
     let s = b .before in
-    rw (c .sent-fields .ensures, b .baseline-of .ensures, s .stamp-of .ensures, s .before .request-of .ensures)
+    rw (c .sent-fields .ensures, b .baseline-of .ensures, s .time-of .ensures, s .before .request-of .ensures)
 
 pub request-fields-spec : {M : Type 1} → statement M
 request-fields-spec =

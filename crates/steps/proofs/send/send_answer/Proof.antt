@@ -11,7 +11,7 @@ returns c =
     rw (
       c .first-of .ensures,
       c .before .is-above .ensures,
-      s .stamp-of .ensures,
+      s .time-of .ensures,
       s .before .send-width .ensures,
       x .is-exhausted .ensures,
       m .may-request .ensures,

@@ -6,7 +6,7 @@ use Rattle.transitions.proofs.by_call.requested.Tie as tie
 returns : tie.Need-returns
 returns c =
     let s = c .before .before in
-    rw (c .counted .ensures, c .before .request-of .ensures, s .stamped .ensures, s .before .stamp-of .ensures)
+    rw (c .counted .ensures, c .before .request-of .ensures, s .stamped .ensures, s .before .time-of .ensures)
 
 pub requested-spec : {M : Type 1} → statement M
 requested-spec =

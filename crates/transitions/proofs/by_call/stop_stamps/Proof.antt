@@ -10,4 +10,4 @@ stop-stamps-spec =
     (λ c. search needs)
     (λ c κs. search needs)
     (λ c κs. search needs)
-    (λ c. rw (c .stamped .ensures, c .before .stamp-of .ensures, c .before .before .if1 .left)))
+    (λ c. rw (c .stamped .ensures, c .before .time-of .ensures, c .before .before .if1 .left)))
