@@ -29,7 +29,7 @@ ccOf clock offset = (upper clock + upper offset + tCodeCarry clock offset) % 429
 abbrev pub slaveTime : ℕ → ℕ → ℕ
 slaveTime clock offset = 65536 * ccOf clock offset + tCodeOf clock offset
 
--- equation (10): 1 where a 16-bit time that goes on from one reading to another is then below it, else 0
+-- the comparison of equation (10): 1 where a 16-bit time is lower than the one before, having passed its end, else 0
 abbrev pub wrapped : ℕ → ℕ → ℕ
 wrapped from to = cond (ltb to from) 1 0
 
@@ -39,7 +39,7 @@ pub record TCodeTheorem : Type 0 where
   -- of which T code is thus the lower 16 bits, and CC the upper 32
   pub low : (clock offset : ℕ) → lower (masterTime true offset clock) ≡ tCodeOf clock offset
   pub high : (clock offset : ℕ) → upper (masterTime true offset clock) ≡ ccOf clock offset
-  -- at most 65,535 ticks later CC is what it was, and 1 more where T code has fallen: so 12.7.2.7 keeps carry_counter
+  -- at most 65,535 ticks later CC is what it was, or 1 more where T code is lower: as 12.7.2.7 keeps carry_counter
   pub counts : (clock ticks offset : ℕ) → ticks < 65536
       → ccOf (clock + ticks) offset
       ≡ (ccOf clock offset + wrapped (tCodeOf clock offset) (tCodeOf (clock + ticks) offset)) % 4294967296

@@ -9,20 +9,23 @@ fn lower(x: u64) -> u16
     (x % 65536) as u16
 }
 
-// 1 where a 16-bit time that goes on from one reading to another has passed its end, else 0: equation (10).
+// 1 where a 16-bit time has passed its end from one value to the next, which is then the lower one; else 0. The
+// comparison is that of equation (10).
 fn wrapped(from: u16, to: u16) -> u16
     ensures { λ r. ⌜ r ≡ wrapped from to ⌝ }
 {
     if to < from { 1 } else { 0 }
 }
 
-// The master's clock as a slave reckons it, when it sends (12.7.1.4) and when it receives (12.7.2.6): first T code, by
-// equations (1), (8) and (9), then CC with the carry. Clock is the slave's own, offset its ts_offset.
+// The master's clock as a slave reckons it, when it sends (12.7.1.4) and when it receives (12.7.2.6). Clock is the slave's
+// own, offset its ts_offset.
 pub fn slave_time(clock: u64, offset: u64) -> u64
     ensures { λ r. ⌜ r ≡ slaveTime clock offset ⌝ }
 {
+    // T code = (current_time + ts_offset) mod 2^16: equation (1), and (8) and (9)
     let current_time = lower(clock);
     let t_code = std::num::wrapping_add_u16(current_time, lower(offset));
+    // CC: the upper 32 bits, with the carry, mod 2^32
     let carry = wrapped(current_time, t_code);
     let cc = std::num::wrapping_add_u64(clock / 65536, offset / 65536 + (carry as u64))
         % 4294967296;
