@@ -19,6 +19,7 @@ use endpoint::answers::is_done;
 use endpoint::answers::is_ended;
 use endpoint::time::expired;
 use endpoint::time::tick;
+use frame::LONGEST_FRAME;
 use steps::Stepped;
 
 // Numbers 1 and 2; else what comes after them.
@@ -147,7 +148,7 @@ pub fn send(device: Device, clock: u64, n: u32, value: &[u8], out: &mut [u8]) ->
     let last = device.last;
     let endpoints = device.endpoints;
     let e = endpoint_at(endpoints, n);
-    let before = before_entry(last, device.count, n, e, clock, out.len() < 248);
+    let before = before_entry(last, device.count, n, e, clock, out.len() < LONGEST_FRAME);
     if !is_done(before) {
         return refused(before, clock, n, device);
     }
@@ -163,7 +164,7 @@ pub fn stop(device: Device, clock: u64, n: u32, out: &mut [u8]) -> Called
     let last = device.last;
     let endpoints = device.endpoints;
     let e = endpoint_at(endpoints, n);
-    let before = before_entry(last, device.count, n, e, clock, out.len() < 248);
+    let before = before_entry(last, device.count, n, e, clock, out.len() < LONGEST_FRAME);
     if !is_done(before) {
         return refused(before, clock, n, device);
     }
@@ -204,7 +205,7 @@ pub fn show(device: Device, clock: u64, n: u32, out: &mut [u8]) -> Called
     let before = admitted(
         last,
         clock,
-        out.len() < 248,
+        out.len() < LONGEST_FRAME,
         admitted_entry(device.count, n, Answer::Done),
     );
     if !is_done(before) {

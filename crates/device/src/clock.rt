@@ -4,14 +4,15 @@ ghost use Rattle.device.specs.Clock.{isReading, clockStep, afterClock};
 use super::Device;
 use super::table::tick_all;
 use endpoint::Timestamp;
+use endpoint::time::LAST_READING;
 
 // At most 2^48 - 65,537, and not below the device's last: else number 1.
 pub fn is_reading(last: Timestamp, clock: u64) -> bool
     ensures { λ r. ⌜ r ≡ isReading last clock ⌝ }
 {
     match last {
-        Timestamp::Never => clock <= 281474976645119,
-        Timestamp::At(before) => (before <= clock) & (clock <= 281474976645119),
+        Timestamp::Never => clock <= LAST_READING,
+        Timestamp::At(before) => (before <= clock) & (clock <= LAST_READING),
     }
 }
 

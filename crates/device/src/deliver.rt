@@ -17,6 +17,7 @@ use endpoint::Reason;
 use endpoint::answers::is_done;
 use frame::Fault;
 use frame::Fields;
+use frame::LONGEST_FRAME;
 use frame::Reading;
 use frame::read::read_frame;
 
@@ -57,7 +58,7 @@ fn deliver_to(
     ensures { λ r. ⌜ CallSays (byEntry device clock (length (now (out .entry))) fields (now (body .entry)) found)
         (now (out .entry)) (now (out .exit)) r ⌝ }
 {
-    let short = out.len() < 248;
+    let short = out.len() < LONGEST_FRAME;
     match found {
         Entry::Absent => {
             let last = device.last;
@@ -85,7 +86,7 @@ pub fn deliver(device: Device, clock: u64, bytes: &[u8], out: &mut [u8]) -> Call
         (now (out .entry)) (now (out .exit)) r ⌝ }
 {
     if bytes.len() == 0 {
-        return empty_cycle(device, clock, out.len() < 248);
+        return empty_cycle(device, clock, out.len() < LONGEST_FRAME);
     }
     let last = device.last;
     let endpoints = device.endpoints;
@@ -95,7 +96,7 @@ pub fn deliver(device: Device, clock: u64, bytes: &[u8], out: &mut [u8]) -> Call
             let answer = admitted(
                 last,
                 clock,
-                out.len() < 248,
+                out.len() < LONGEST_FRAME,
                 Answer::Dropped(reason_of(fault)),
             );
             refused(answer, clock, 0, device)

@@ -11,7 +11,7 @@ use Rattle.endpoint.specs.declared.Endpoint.{Endpoint}
 use Rattle.endpoint.specs.declared.Reason.the-variants as R
 use Rattle.endpoint.specs.declared.Answer.{Answer}
 use Rattle.endpoint.specs.declared.Answer.the-variants.{Done, Dropped, Ended}
-use Rattle.endpoint.specs.Table.{stateNumber, isState}
+use Rattle.endpoint.specs.Table.{rowOf, isState}
 use Rattle.endpoint.specs.Time.{isExpired, endedOf, afterTick}
 use Rattle.transitions.specs.ByCall.{startedOf, restartedOf}
 use Rattle.steps.specs.Frames.{nothing}
@@ -42,7 +42,7 @@ pub tick-timely : (e : Endpoint) (t : ℕ) → isExpired e t ≡ false → after
 tick-timely e t h = cond-false (isExpired e t) (endedOf e) e h
 
 not-closed : (s : State) → isState s Terminate ≡ true → isState s Close ≡ false
-not-closed s h = ap (λ (n : ℕ). eqb n (stateNumber Close)) (eqb-true (stateNumber s) (stateNumber Terminate) h)
+not-closed s h = ap (λ (n : ℕ). eqb n (rowOf Close)) (eqb-true (rowOf s) (rowOf Terminate) h)
 
 start-refused : (e : Endpoint) (t : ℕ) (m b : Bool) → b ≡ false
     → cond (m && b) (outcome Done (startedOf e t) nothing) (dropped e (Dropped R.Turn)) ≡ dropped e (Dropped R.Turn)

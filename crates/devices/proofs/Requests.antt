@@ -15,7 +15,7 @@ use Rattle.endpoint.specs.declared.Settings.{Settings}
 use Rattle.endpoint.specs.declared.Endpoint.{Endpoint}
 use Rattle.endpoint.specs.Answers.{isDone}
 use Rattle.endpoint.specs.Time.{afterTick}
-use Rattle.transitions.specs.ByCall.{requestLimit}
+use Rattle.endpoint.specs.Due.{requestLimit}
 use Rattle.steps.specs.Frames.{Written, nothing, written, bytesOf}
 use Rattle.steps.specs.Calls.{Outcome}
 use Rattle.steps.specs.Steps as S

@@ -19,7 +19,7 @@ use Rattle.endpoint.specs.declared.Timestamp.the-variants.{Never, At}
 use Rattle.endpoint.specs.declared.Pending.the-variants.{Nothing, Asked}
 use Rattle.endpoint.specs.declared.Endpoint.{Endpoint}
 use Rattle.endpoint.specs.Answers.{numberOf}
-use Rattle.endpoint.specs.Table.{stateNumber}
+use Rattle.endpoint.specs.Table.{rowOf}
 use Rattle.endpoint.specs.Updates.{inState, timedFrom, withTimestamps, withSetup, withPending, withRequests}
 use Rattle.endpoint.specs.Updates.{withNotReady}
 use Rattle.endpoint.specs.TCode.{tCodeOf, ccOf, slaveTime}
@@ -171,9 +171,9 @@ cases =
     ∷ case (markOf (showIn shownFrom 6331 248 0)) 1
     -- zero bytes: in time, the connection stays; late, it ends, and the number is 0 all the same
     ∷ case (emptyAt 6330 248) 0
-    ∷ case (stateNumber (stateAfterEmpty 6330)) (stateNumber Refresh)
+    ∷ case (rowOf (stateAfterEmpty 6330)) (rowOf Refresh)
     ∷ case (emptyAt 6331 248) 0
-    ∷ case (stateNumber (stateAfterEmpty 6331)) (stateNumber Terminate)
+    ∷ case (rowOf (stateAfterEmpty 6331)) (rowOf Terminate)
     -- a reading before the last; an output one byte short; a device never loaded; the frame check
     ∷ case (emptyAt 6229 248) 1
     ∷ case (emptyAt 6331 247) 2
@@ -186,7 +186,7 @@ cases =
     ∷ case (controlIn (askedRight Close K.Connect .writes)) 0x00840000
     ∷ case (controlIn (askedRight RefreshPending K.RefreshGo .writes)) 0xFE840000
     -- it stays in its state, its timer runs from the reply, s2 is not fixed
-    ∷ case (stateNumber (askedRight ParamVerify K.RefreshReady .endpoint .state)) (stateNumber ParamVerify)
+    ∷ case (rowOf (askedRight ParamVerify K.RefreshReady .endpoint .state)) (rowOf ParamVerify)
     ∷ case (askedRight ParamVerify K.RefreshReady .endpoint .since) 6040
     ∷ case (askedRight ParamVerify K.RefreshReady .endpoint .setup .measured) 5
     -- unequal contents: 16, with Error and without Busy
@@ -194,7 +194,7 @@ cases =
     ∷ case (controlIn (asked ParamVerify K.RefreshReady word .writes)) 0xFCA40000
     -- a master on a Busy reply: 0; its state stays, its timer starts afresh, m2 is not fixed, the same Cmd is due again
     ∷ case (numberOf (busyReply false (0 ∷ 0 ∷ 0 ∷ 0 ∷ []) .answer)) 0
-    ∷ case (stateNumber (dueAgain .state)) (stateNumber ParamVerify)
+    ∷ case (rowOf (dueAgain .state)) (rowOf ParamVerify)
     ∷ case (dueAgain .since) 1030
     ∷ case (dueAgain .setup .measured) 5
     ∷ case (controlIn (sendOf dueAgain 1031 [] .writes)) 0xFC000000
@@ -210,7 +210,7 @@ cases =
     ∷ case (sentAfter 44 EstablishPending 1010 .endpoint .setup .requests) 45
     ∷ case (numberOf (sentAfter 45 EstablishPending 1010 .answer)) 19
     ∷ case (controlIn (sentAfter 45 EstablishPending 1010 .writes)) 0
-    ∷ case (stateNumber (sentAfter 45 EstablishPending 1010 .endpoint .state)) (stateNumber Terminate)
+    ∷ case (rowOf (sentAfter 45 EstablishPending 1010 .endpoint .state)) (rowOf Terminate)
     -- 19 before 17, and after 11; a count that no call leaves
     ∷ case (numberOf (sentAfter 44 EstablishPending 1000 .answer)) 17
     ∷ case (numberOf (sentAfter 45 EstablishPending 1000 .answer)) 19

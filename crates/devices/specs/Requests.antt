@@ -9,7 +9,7 @@ use Rattle.frame.specs.declared.Reading.{Reading}
 use Rattle.frame.specs.declared.Reading.the-variants.{Frame, Refused}
 use Rattle.frame.specs.Reading.{readingOf}
 use Rattle.endpoint.specs.Answers.{isDone}
-use Rattle.transitions.specs.ByCall.{requestLimit}
+use Rattle.endpoint.specs.Due.{requestLimit}
 use Rattle.steps.specs.Frames.{isRequest}
 use Rattle.steps.specs.Steps.{begins}
 use Rattle.device.specs.declared.Device.{Device}

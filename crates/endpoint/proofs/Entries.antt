@@ -9,11 +9,11 @@ use Rattle.endpoint.specs.declared.State.{State}
 use Rattle.endpoint.specs.declared.State.the-variants.{Close, Starting, EstablishPending, Establish, ParamVerify}
 use Rattle.endpoint.specs.declared.State.the-variants.{RefreshPending, Refresh, Terminate}
 use Rattle.endpoint.specs.declared.Next.{Next}
-use Rattle.endpoint.specs.Table.{stateNumber, columnOf, nextOf}
+use Rattle.endpoint.specs.Table.{rowOf, columnOf, nextOf}
 
 -- the entry of a command in a state; z is what a list gives past its end
 abbrev pub Entry : List Next → Next → State → Command → Type 0
-Entry t z s k = getD t (stateNumber s * 7 + columnOf k) z ≡ nextOf k s
+Entry t z s k = getD t (rowOf s * 7 + columnOf k) z ≡ nextOf k s
 
 abbrev pub Row : List Next → Next → State → Type 0
 Row t z s =

@@ -61,6 +61,19 @@ setupFaults turn width repeat unequal = record {
   soon = false;
 }
 
+-- what can refuse an S-Refresh: 11 to 15
+abbrev pub valueFaults : Bool → Bool → Bool → Bool → Bool → Faults
+valueFaults turn width repeat ahead late = record {
+  turn = turn;
+  width = width;
+  exhausted = false;
+  repeat = repeat;
+  ahead = ahead;
+  late = late;
+  unequal = false;
+  soon = false;
+}
+
 -- the first that applies, in the order of the numbers, but for 19, which comes after 12; 15, 16 and 19 end the
 -- connection
 abbrev pub firstOf : Faults → Answer

@@ -1,4 +1,5 @@
--- State against command (001, table 40): the state that each command leads to, and the request due in each state.
+-- State against command, laid out like 001's table 40: the state that each command leads to, and the request due in
+-- each state.
 use mathlib.Core.Bool.{Bool, true, false}
 use Prim.Native.Nat.{ℕ}
 use lib.Dec.{eqb}
@@ -22,26 +23,47 @@ byState RefreshPending a b c d e f g h = f
 byState Refresh a b c d e f g h = g
 byState Terminate a b c d e f g h = h
 
-abbrev pub stateNumber : State → ℕ
-stateNumber s = byState s 0 1 2 3 4 5 6 7
+-- one of seven, by the command: S-Connect, S-InitConfirmNetPrm, S-InitVerifyStnPrm, S-RefreshReady, S-RefreshGO,
+-- S-Refresh, S-Disconnect
+abbrev pub byCommand : {A : Type 0} → Command → A → A → A → A → A → A → A → A
+byCommand K.Connect a b c d e f g = a
+byCommand K.ConfirmNetwork a b c d e f g = b
+byCommand K.VerifyStation a b c d e f g = c
+byCommand K.RefreshReady a b c d e f g = d
+byCommand K.RefreshGo a b c d e f g = e
+byCommand K.Refresh a b c d e f g = f
+byCommand K.Disconnect a b c d e f g = g
+
+-- a row a state: what each command does in it. The transitions of table 40 stand above each row; what has none there is
+-- document 01's: S-Disconnect, S-Refresh accepted, and Starting, a master's before its first reply
+abbrev pub nextOf : Command → State → Next
+-- S-Connect ST1
+nextOf k Close = byCommand k (To EstablishPending) No No No No No No
+nextOf k Starting = byCommand k (To EstablishPending) No No No No No (To Terminate)
+-- S-Connect ST25, S-InitConfirmNetPrm ST2
+nextOf k EstablishPending = byCommand k (To EstablishPending) (To Establish) No No No No (To Terminate)
+-- S-InitVerifyStnPrm ST4
+nextOf k Establish = byCommand k No No (To ParamVerify) No No No (To Terminate)
+-- S-RefreshReady ST6
+nextOf k ParamVerify = byCommand k No No No (To RefreshPending) No No (To Terminate)
+-- S-RefreshGO ST14
+nextOf k RefreshPending = byCommand k No No No No (To Refresh) No (To Terminate)
+nextOf k Refresh = byCommand k No No No No No (To Refresh) (To Terminate)
+nextOf k Terminate = byCommand k No No No No No No No
+
+-- a state's row of the table, and a command's column
+abbrev pub rowOf : State → ℕ
+rowOf s = byState s 0 1 2 3 4 5 6 7
+
+abbrev pub columnOf : Command → ℕ
+columnOf k = byCommand k 0 1 2 3 4 5 6
 
 abbrev pub isState : State → State → Bool
-isState a b = eqb (stateNumber a) (stateNumber b)
+isState a b = eqb (rowOf a) (rowOf b)
 
 -- setup: all between Close and Refresh
 abbrev pub isSetup : State → Bool
 isSetup s = byState s false true true true true true false false
-
--- a column of the table: what a command does in each state
-abbrev pub nextOf : Command → State → Next
-nextOf K.Connect s = byState s (To EstablishPending) (To EstablishPending) (To EstablishPending) No No No No No
-nextOf K.ConfirmNetwork s = byState s No No (To Establish) No No No No No
-nextOf K.VerifyStation s = byState s No No No (To ParamVerify) No No No No
-nextOf K.RefreshReady s = byState s No No No No (To RefreshPending) No No No
-nextOf K.RefreshGo s = byState s No No No No No (To Refresh) No No
-nextOf K.Refresh s = byState s No No No No No No (To Refresh) No
-nextOf K.Disconnect s =
-    byState s No (To Terminate) (To Terminate) (To Terminate) (To Terminate) (To Terminate) (To Terminate) No
 
 abbrev pub isNo : Next → Bool
 isNo (To s) = false
@@ -56,13 +78,3 @@ stateTo No last = last
 abbrev pub requestOf : State → Command
 requestOf s =
     byState s K.Connect K.Connect K.ConfirmNetwork K.VerifyStation K.RefreshReady K.RefreshGo K.Connect K.Connect
-
--- a command's column in the table
-abbrev pub columnOf : Command → ℕ
-columnOf K.Connect = 0
-columnOf K.ConfirmNetwork = 1
-columnOf K.VerifyStation = 2
-columnOf K.RefreshReady = 3
-columnOf K.RefreshGo = 4
-columnOf K.Refresh = 5
-columnOf K.Disconnect = 6

@@ -37,6 +37,10 @@ masterTime slave offset t = (t + cond slave offset 0) % span
 abbrev pub timeOf : Endpoint → ℕ → ℕ
 timeOf e t = masterTime (e .settings .slave) (e .setup .offset) t
 
+-- a timestamp's age at an endpoint: its time in the master's clock, less the timestamp
+abbrev pub ageOf : Endpoint → ℕ → ℕ → ℕ
+ageOf e t stamp = minus (timeOf e t) stamp
+
 -- a timestamp above the one remembered, if any
 abbrev pub isAbove : Timestamp → ℕ → Bool
 isAbove Never s = true

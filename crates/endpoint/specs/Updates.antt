@@ -3,6 +3,7 @@ use mathlib.Core.Bool.{Bool}
 use Prim.Native.Nat.{ℕ}
 use Rattle.endpoint.specs.declared.Settings.{Settings}
 use Rattle.endpoint.specs.declared.State.{State}
+use Rattle.endpoint.specs.declared.Timestamp.the-variants.{At}
 use Rattle.endpoint.specs.declared.Timestamps.{Timestamps}
 use Rattle.endpoint.specs.declared.Pending.{Pending}
 use Rattle.endpoint.specs.declared.Setup.{Setup}
@@ -31,6 +32,13 @@ timedFrom t e = endpointOf (e .settings) (e .state) t (e .timestamps) (e .setup)
 abbrev pub withTimestamps : Timestamps → Endpoint → Endpoint
 withTimestamps ts e = endpointOf (e .settings) (e .state) (e .since) ts (e .setup) (e .station) (e .value)
 
+-- this timestamp is remembered as the last sent, or as the last accepted
+abbrev pub withSent : ℕ → Endpoint → Endpoint
+withSent stamp e = withTimestamps (record { sent = At stamp; accepted = e .timestamps .accepted }) e
+
+abbrev pub withAccepted : ℕ → Endpoint → Endpoint
+withAccepted stamp e = withTimestamps (record { sent = e .timestamps .sent; accepted = At stamp }) e
+
 abbrev pub withSetup : Pending → ℕ → ℕ → ℕ → Endpoint → Endpoint
 withSetup pending measured offset requests e =
     endpointOf (e .settings) (e .state) (e .since) (e .timestamps)
@@ -38,6 +46,13 @@ withSetup pending measured offset requests e =
 
 abbrev pub withPending : Pending → Endpoint → Endpoint
 withPending p e = withSetup p (e .setup .measured) (e .setup .offset) (e .setup .requests) e
+
+-- s2 or m2, and ts_offset
+abbrev pub withMeasured : ℕ → Endpoint → Endpoint
+withMeasured n e = withSetup (e .setup .pending) n (e .setup .offset) (e .setup .requests) e
+
+abbrev pub withOffset : ℕ → Endpoint → Endpoint
+withOffset n e = withSetup (e .setup .pending) (e .setup .measured) n (e .setup .requests) e
 
 -- so many setup requests have been written since the last start or loading
 abbrev pub withRequests : ℕ → Endpoint → Endpoint

@@ -1,6 +1,7 @@
 // Answers: their numbers, and the first refusal that applies.
 ghost use mathlib.Core.Path.{_≡_};
-ghost use Rattle.endpoint.specs.Answers.{reasonNumber, numberOf, firstOf, isDone, isDropped, isEnded, leftBy};
+ghost use Rattle.endpoint.specs.Answers.{reasonNumber, numberOf, callFaults, setupFaults, valueFaults, firstOf};
+ghost use Rattle.endpoint.specs.Answers.{isDone, isDropped, isEnded, leftBy};
 use super::Answer;
 use super::Endpoint;
 use super::Faults;
@@ -40,6 +41,54 @@ pub fn number(answer: Answer) -> u8
         Answer::Done => 0,
         Answer::Dropped(reason) => reason_number(reason),
         Answer::Ended(reason) => reason_number(reason),
+    }
+}
+
+// What can refuse a user's call: 11, 12, 19 and 17.
+pub fn call_faults(turn: bool, width: bool, exhausted: bool, soon: bool) -> Faults
+    ensures { λ r. ⌜ r ≡ callFaults turn width exhausted soon ⌝ }
+{
+    Faults {
+        turn: turn,
+        width: width,
+        exhausted: exhausted,
+        repeat: false,
+        ahead: false,
+        late: false,
+        unequal: false,
+        soon: soon,
+    }
+}
+
+// What can refuse a setup frame: 11, 12, 13 and 16.
+pub fn setup_faults(turn: bool, width: bool, repeat: bool, unequal: bool) -> Faults
+    ensures { λ r. ⌜ r ≡ setupFaults turn width repeat unequal ⌝ }
+{
+    Faults {
+        turn: turn,
+        width: width,
+        exhausted: false,
+        repeat: repeat,
+        ahead: false,
+        late: false,
+        unequal: unequal,
+        soon: false,
+    }
+}
+
+// What can refuse an S-Refresh: 11 to 15.
+pub fn value_faults(turn: bool, width: bool, repeat: bool, ahead: bool, late: bool) -> Faults
+    ensures { λ r. ⌜ r ≡ valueFaults turn width repeat ahead late ⌝ }
+{
+    Faults {
+        turn: turn,
+        width: width,
+        exhausted: false,
+        repeat: repeat,
+        ahead: ahead,
+        late: late,
+        unequal: false,
+        soon: false,
     }
 }
 

@@ -2,9 +2,11 @@
 // and the answers that calls on it get. The calls themselves are in the crate steps.
 
 pub mod answers;
+pub mod due;
 mod t_code;
 pub mod table;
 pub mod time;
+pub mod updates;
 
 // What a connection was set up with.
 pub struct Settings {

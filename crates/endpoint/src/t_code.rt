@@ -22,11 +22,12 @@ fn wrapped(from: u16, to: u16) -> u16
 pub fn slave_time(clock: u64, offset: u64) -> u64
     ensures { λ r. ⌜ r ≡ slaveTime clock offset ⌝ }
 {
-    // T code = (current_time + ts_offset) mod 2^16: equation (1), and (8) and (9)
-    let current_time = lower(clock);
-    let t_code = std::num::wrapping_add_u16(current_time, lower(offset));
+    // T code = (sending_time + ts_offset) mod 2^16: equation (1), and (8) and (9)
+    let sending_time = lower(clock);
+    let ts_offset = lower(offset);
+    let t_code = std::num::wrapping_add_u16(sending_time, ts_offset);
     // CC: the upper 32 bits, with the carry, mod 2^32
-    let carry = wrapped(current_time, t_code);
+    let carry = wrapped(sending_time, t_code);
     let cc = std::num::wrapping_add_u64(clock / 65536, offset / 65536 + (carry as u64))
         % 4294967296;
     65536 * cc + (t_code as u64)

@@ -1,69 +1,70 @@
 // The table of states against commands, laid out like 001's table 40: a row a state, and what is read off it.
 ghost use mathlib.Core.Path.{_≡_};
 ghost use Prim.Native.Nat.{_<_};
-ghost use Rattle.endpoint.specs.Table.{stateNumber, columnOf, isState, isSetup, nextOf, isNo, stateTo, requestOf};
+ghost use Rattle.endpoint.specs.Table.{rowOf, columnOf, isState, isSetup, nextOf, isNo, stateTo, requestOf};
 use super::Next;
 use super::State;
 use frame::Command;
 
-// In each row: Connect, ConfirmNetwork, VerifyStation, RefreshReady, RefreshGo, Refresh, Disconnect.
+// In each row: Connect, ConfirmNetwork, VerifyStation, RefreshReady, RefreshGo, Refresh, Disconnect. Beside what leads
+// somewhere its transition in table 40, or 01 where document 01 alone has it.
 const NEXT: [Next; 56] = [
     // Close
-    Next::To(State::EstablishPending),
+    Next::To(State::EstablishPending), // ST1
     Next::No,
     Next::No,
     Next::No,
     Next::No,
     Next::No,
     Next::No,
-    // Starting
-    Next::To(State::EstablishPending),
+    // Starting, a master's alone
+    Next::To(State::EstablishPending), // the reply to its first request
     Next::No,
     Next::No,
     Next::No,
     Next::No,
     Next::No,
-    Next::To(State::Terminate),
+    Next::To(State::Terminate), // 01
     // EstablishPending
-    Next::To(State::EstablishPending),
-    Next::To(State::Establish),
+    Next::To(State::EstablishPending), // ST25
+    Next::To(State::Establish), // ST2
     Next::No,
     Next::No,
     Next::No,
     Next::No,
-    Next::To(State::Terminate),
+    Next::To(State::Terminate), // 01
     // Establish
     Next::No,
     Next::No,
-    Next::To(State::ParamVerify),
+    Next::To(State::ParamVerify), // ST4
     Next::No,
     Next::No,
     Next::No,
-    Next::To(State::Terminate),
+    Next::To(State::Terminate), // 01
     // ParamVerify
     Next::No,
     Next::No,
     Next::No,
-    Next::To(State::RefreshPending),
+    Next::To(State::RefreshPending), // ST6
     Next::No,
     Next::No,
-    Next::To(State::Terminate),
+    Next::To(State::Terminate), // 01
     // RefreshPending
     Next::No,
     Next::No,
     Next::No,
     Next::No,
-    Next::To(State::Refresh),
+    Next::To(State::Refresh), // ST14
     Next::No,
-    Next::To(State::Terminate),
+    Next::To(State::Terminate), // 01
     // Refresh
     Next::No,
     Next::No,
     Next::No,
     Next::No,
     Next::No,
-    Next::To(State::Refresh),
-    Next::To(State::Terminate),
+    Next::To(State::Refresh), // 01
+    Next::To(State::Terminate), // 01
     // Terminate
     Next::No,
     Next::No,
@@ -74,8 +75,9 @@ const NEXT: [Next; 56] = [
     Next::No,
 ];
 
-fn state_number(s: State) -> usize
-    ensures { λ r. ⌜ (r ≡ stateNumber s) × (r < 8) ⌝ }
+// A state's row.
+fn row(s: State) -> usize
+    ensures { λ r. ⌜ (r ≡ rowOf s) × (r < 8) ⌝ }
 {
     match s {
         State::Close => 0,
@@ -89,6 +91,7 @@ fn state_number(s: State) -> usize
     }
 }
 
+// A command's column.
 fn column(k: Command) -> usize
     ensures { λ r. ⌜ (r ≡ columnOf k) × (r < 7) ⌝ }
 {
@@ -106,7 +109,7 @@ fn column(k: Command) -> usize
 pub fn is_state(a: State, b: State) -> bool
     ensures { λ r. ⌜ r ≡ isState a b ⌝ }
 {
-    state_number(a) == state_number(b)
+    row(a) == row(b)
 }
 
 // Setup is all between Close and Refresh.
@@ -129,7 +132,7 @@ pub fn is_setup(s: State) -> bool
 pub fn next_state(k: Command, s: State) -> Next
     ensures { λ r. ⌜ r ≡ nextOf k s ⌝ }
 {
-    let i = state_number(s) * 7 + column(k);
+    let i = row(s) * 7 + column(k);
     NEXT[i]
 }
 

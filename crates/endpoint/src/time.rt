@@ -2,7 +2,7 @@
 ghost use mathlib.Core.Path.{_≡_};
 ghost use Prim.Native.Nat.{_-_};
 ghost use Rattle.endpoint.specs.Time.{minus, masterTime, isAbove, isTooFarAhead, allowanceOf, isTooLate};
-ghost use Rattle.endpoint.specs.Time.{offsetFrom, isOver, isExpired, noValue, endedOf, afterTick, timeOf};
+ghost use Rattle.endpoint.specs.Time.{offsetFrom, isOver, isExpired, noValue, endedOf, afterTick, timeOf, ageOf};
 use super::Endpoint;
 use super::Settings;
 use super::State;
@@ -11,6 +11,14 @@ use super::Value;
 use super::t_code::slave_time;
 use super::table::is_setup;
 use super::table::is_state;
+use super::updates::in_state;
+use frame::TIMESTAMP_MODULUS;
+
+// The highest clock reading: 2^48 - 65,537.
+pub const LAST_READING: u64 = 281474976645119;
+
+// An age from 2^47 on means that the timestamp is ahead.
+const AHEAD: u64 = 140737488355328;
 
 // Ticks from since to clock, 0 where clock is below.
 pub fn passed(clock: u64, since: u64) -> u64
@@ -23,12 +31,12 @@ pub fn passed(clock: u64, since: u64) -> u64
 pub fn minus(a: u64, b: u64) -> u64
     ensures { λ r. ⌜ r ≡ minus a b ⌝ }
 {
-    let x = a % 281474976710656;
-    let y = b % 281474976710656;
+    let x = a % TIMESTAMP_MODULUS;
+    let y = b % TIMESTAMP_MODULUS;
     if y <= x {
         x - y
     } else {
-        x + 281474976710656 - y
+        x + TIMESTAMP_MODULUS - y
     }
 }
 
@@ -39,7 +47,7 @@ fn master_time(slave: bool, offset: u64, clock: u64) -> u64
     if slave {
         return slave_time(clock, offset);
     }
-    clock % 281474976710656
+    clock % TIMESTAMP_MODULUS
 }
 
 // The same, of the endpoint at its clock reading.
@@ -47,6 +55,13 @@ pub fn time_of(e: Endpoint, clock: u64) -> u64
     ensures { λ r. ⌜ r ≡ timeOf e clock ⌝ }
 {
     master_time(e.settings.slave, e.setup.offset, clock)
+}
+
+// A timestamp's age at an endpoint.
+pub fn age_of(e: Endpoint, clock: u64, stamp: u64) -> u64
+    ensures { λ r. ⌜ r ≡ ageOf e clock stamp ⌝ }
+{
+    minus(time_of(e, clock), stamp)
 }
 
 pub fn is_above(last: Timestamp, stamp: u64) -> bool
@@ -62,7 +77,7 @@ pub fn is_above(last: Timestamp, stamp: u64) -> bool
 pub fn is_too_far_ahead(age: u64, allowance: u32) -> bool
     ensures { λ r. ⌜ r ≡ isTooFarAhead age allowance ⌝ }
 {
-    (140737488355328 <= age) & ((allowance as u64) < passed(281474976710656, age))
+    (AHEAD <= age) & ((allowance as u64) < passed(TIMESTAMP_MODULUS, age))
 }
 
 pub fn allowance(s: Settings) -> u32
@@ -74,7 +89,7 @@ pub fn allowance(s: Settings) -> u32
 pub fn is_too_late(age: u64, limit: u32) -> bool
     ensures { λ r. ⌜ r ≡ isTooLate age limit ⌝ }
 {
-    !(140737488355328 <= age) & ((limit as u64) < age)
+    !(AHEAD <= age) & ((limit as u64) < age)
 }
 
 // ts_offset from an S-RefreshGO.
@@ -118,19 +133,9 @@ pub fn no_value() -> Value
 pub fn ended(e: Endpoint) -> Endpoint
     ensures { λ r. ⌜ r ≡ endedOf e ⌝ }
 {
-    let settings = e.settings;
-    let timestamps = e.timestamps;
-    let setup = e.setup;
-    let station = e.station;
-    Endpoint {
-        settings: settings,
-        state: State::Terminate,
-        since: e.since,
-        timestamps: timestamps,
-        setup: setup,
-        station: station,
-        value: no_value(),
-    }
+    let mut next = in_state(State::Terminate, e);
+    next.value = no_value();
+    next
 }
 
 // The clock step: the endpoint ended where its timer has expired, else as it was.

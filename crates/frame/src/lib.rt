@@ -6,6 +6,12 @@ pub mod read;
 mod words;
 pub mod write;
 
+// The longest frame in bytes, and so the least output that is lent where a frame may be written.
+pub const LONGEST_FRAME: usize = 248;
+
+// 2^48: a timestamp is below it.
+pub const TIMESTAMP_MODULUS: u64 = 281474976710656;
+
 // Cmd, bits 31 to 24 of CTRL, with its code.
 pub enum Command {
     // S-Connect, 0x00

@@ -6,6 +6,7 @@ ghost use Rattle.frame.specs.Reading.{isFrameLength, same, hasCheckWord,
 ghost use Rattle.frame.specs.Reading.{readingOfCopies, readingOf, faultNumber, numberOf};
 use super::Fault;
 use super::Fields;
+use super::LONGEST_FRAME;
 use super::Reading;
 use super::control::command_of;
 use super::control::control_of;
@@ -16,7 +17,7 @@ use super::words::word_at;
 fn is_frame_length(n: usize) -> bool
     ensures { λ r. ⌜ r ≡ isFrameLength n ⌝ }
 {
-    (56 <= n) & ((n <= 248) & (n % 8 == 0))
+    (56 <= n) & ((n <= LONGEST_FRAME) & (n % 8 == 0))
 }
 
 // Whether two slices hold the same bytes.

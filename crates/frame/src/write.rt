@@ -5,6 +5,7 @@ ghost use lib.ListN.{length};
 ghost use Rattle.frame.specs.Output.{put};
 ghost use Rattle.frame.specs.Writing.{isBodyLength, isWritable, headBytes, withCheckWord, twice, WriteSays};
 use super::Fields;
+use super::TIMESTAMP_MODULUS;
 use super::control::control_of;
 use super::control::has_form;
 use super::words::put_bytes;
@@ -20,7 +21,7 @@ fn is_body_length(n: usize) -> bool
 fn is_writable(f: Fields, n: usize) -> bool
     ensures { λ r. ⌜ r ≡ isWritable f n ⌝ }
 {
-    has_form(f) & ((f.timestamp < 281474976710656) & is_body_length(n))
+    has_form(f) & ((f.timestamp < TIMESTAMP_MODULUS) & is_body_length(n))
 }
 
 // The words of a SubPDU and its body, at byte k.

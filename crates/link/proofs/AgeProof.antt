@@ -11,12 +11,12 @@ use borrow.Author.Tests.{leb-true}
 use Rattle.frame.proofs.Alike.{and-left, and-right}
 use Rattle.endpoint.specs.declared.Settings.{Settings}
 use Rattle.endpoint.specs.declared.Endpoint.{Endpoint}
-use Rattle.endpoint.specs.Time.{isExpired}
+use Rattle.endpoint.specs.Time.{lastReading, isExpired}
 use Rattle.steps.specs.Calls.{isFailSafe, shownOf}
 use Rattle.steps.proofs.Dispatch.{cond-false}
 use Rattle.steps.proofs.Keeps.{bcase}
 use Rattle.steps.specs.Steps.{Call, act, send, deliver, show}
-use Rattle.link.specs.Runs.{Clocks, momentOf, clockLimit, Event}
+use Rattle.link.specs.Runs.{Clocks, momentOf, Event}
 use Rattle.link.specs.Runs.{callOf, Entry, entryAt, logged, Show, shown, showAt, Link, mayDeliver, tookBy}
 use Rattle.link.specs.Runs.{shownBy}
 use Rattle.link.specs.Runs.{afterEvent, afterAll, begun}
@@ -94,7 +94,7 @@ module _ (c : Clocks) (sm ss : Settings) (p : Paired sm ss) where
 
   -- ---- one event
   step : (l : Link) (slave : Bool) (t : ℕ) (call : Call) → mayDeliver (l .log) call ≡ true
-      → l .latest ≤ momentOf c slave t → t ≤ clockLimit
+      → l .latest ≤ momentOf c slave t → t ≤ lastReading
       → RunInv c sm ss l → RunInv c sm ss (afterEvent c l (record { slave = slave; clock = t; call = call }))
   step l false t call h k lim v =
       let L = linked-later (t + c .master) k (v .linked) in
@@ -142,7 +142,7 @@ module _ (c : Clocks) (sm ss : Settings) (p : Paired sm ss) where
       along (afterEvent c l v) vs h
       (step l (v .slave) (v .clock) (v .call) (and-left (mayDeliver (l .log) (v .call)) _ a)
       (leb-true (l .latest) m (and-left (leb (l .latest) m) _ b))
-      (leb-true (v .clock) clockLimit (and-right (leb (l .latest) m) (leb (v .clock) clockLimit) b)) r)
+      (leb-true (v .clock) lastReading (and-right (leb (l .latest) m) (leb (v .clock) lastReading) b)) r)
 
   -- ---- two endpoints just loaded
   nothing-yet : Inv (termsOf c sm ss) 0 (marks []) (record { nextOut = 0; nextIn = 0; held = 0; phase = restM })

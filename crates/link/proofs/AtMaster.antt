@@ -18,16 +18,17 @@ use Rattle.endpoint.specs.declared.Timestamps.{Timestamps}
 use Rattle.endpoint.specs.declared.Pending.the-variants.{Nothing}
 use Rattle.endpoint.specs.declared.Endpoint.{Endpoint}
 use Rattle.endpoint.specs.Table.{isState, isSetup, requestOf}
-use Rattle.endpoint.specs.Time.{span, minus, isExpired, endedOf, allowanceOf, timeOf}
+use Rattle.endpoint.specs.Due.{requestDue}
+use Rattle.endpoint.specs.Time.{lastReading, span, minus, isExpired, endedOf, allowanceOf, timeOf, ageOf}
 use Rattle.transitions.specs.ByCall.{startedOf, restartedOf, requestedOf, refreshSentOf, stoppedOf}
 use Rattle.transitions.specs.ByFrame.{refreshedOf, confirmedOf, dueAgainOf}
-use Rattle.steps.specs.Frames.{setupData, baselineOf, requestFields, refreshFields, disconnectFields}
+use Rattle.steps.specs.Frames.{setupData, dueData, baselineOf, requestFields, refreshFields, disconnectFields}
 use Rattle.steps.specs.Calls.{isFailSafe, shownOf}
-use Rattle.steps.specs.Deliveries.{ageOf, paddedOf}
+use Rattle.steps.specs.Deliveries.{paddedOf}
 use Rattle.steps.specs.Laws.{RequestSent, RefreshSent, StopDone, ReplyTaken, RefreshTaken}
 use Rattle.steps.proofs.Dispatch.{cond-false}
 use Rattle.steps.proofs.Keeps.{bcase}
-use Rattle.link.specs.Runs.{Clocks, clockLimit, Entry}
+use Rattle.link.specs.Runs.{Clocks, Entry}
 use Rattle.link.specs.Fresh.{Paired}
 use Rattle.link.proofs.Marks.{Mark, mark, at, snoc, Has}
 use Rattle.link.proofs.Invariant.{Terms, Small, MPhase, restM, asked, got, liveM, Master, Inv, MPh, GoOf, wobble}
@@ -42,7 +43,7 @@ use Rattle.link.proofs.Codes.{go-due, go-baseline, request-not-refresh,
 use Rattle.link.proofs.Codes.{pending-setup, busy-due}
 
 module _ (c : Clocks) (sm ss : Settings) (p : Paired sm ss) {l : List Entry} {em es : Endpoint} {tm ts : ℕ} (t : ℕ)
-    (lim : t ≤ clockLimit)
+    (lim : t ≤ lastReading)
     (L : Linked c sm ss (t + c .master) l em es tm ts) where
   T : Terms
   T = termsOf c sm ss
@@ -126,19 +127,19 @@ module _ (c : Clocks) (sm ss : Settings) (p : Paired sm ss) {l : List Entry} {em
       slave = false;
       moment = t + c .master;
       fields = requestFields em t;
-      body = setupData (em .settings) (requestOf (em .state));
+      body = dueData em;
       lent = some value;
     }
 
     above-t : topOf (em .timestamps .sent) ≤ t
     above-t = let z = above-top (em .timestamps .sent) (timeOf em t) (d .above) in let y = time in omega arith
 
-    asked-mark : markOf asking ≡ mark 0 (codeOf (requestOf (em .state))) t
-        (baselineOf (requestOf (em .state)) t (em .setup .measured)) (t + c .master)
-        (setupData (em .settings) (requestOf (em .state)))
-    asked-mark = λ i. mark 0 (codeOf (requestOf (em .state))) (time i)
-        (baselineOf (requestOf (em .state)) t (em .setup .measured)) (t + c .master)
-        (setupData (em .settings) (requestOf (em .state)))
+    asked-mark : markOf asking ≡ mark 0 (codeOf (requestDue em)) t
+        (baselineOf (requestDue em) t (em .setup .measured)) (t + c .master)
+        (dueData em)
+    asked-mark = λ i. mark 0 (codeOf (requestDue em)) (time i)
+        (baselineOf (requestDue em) t (em .setup .measured)) (t + c .master)
+        (dueData em)
 
     asked-honest : Honest asking
     asked-honest = record {
@@ -147,10 +148,10 @@ module _ (c : Clocks) (sm ss : Settings) (p : Paired sm ss) {l : List Entry} {em
       busy = λ h. absurd (false≢true h);
     }
 
-    go-asked : codeOf (requestOf (em .state)) ≡ 254
+    go-asked : codeOf (requestDue em) ≡ 254
         → Has (GoOf (termsOf c sm ss) (marks l)
-        (mark 0 (codeOf (requestOf (em .state))) t (baselineOf (requestOf (em .state)) t (em .setup .measured))
-        (t + c .master) (setupData (em .settings) (requestOf (em .state))))) (marks l)
+        (mark 0 (codeOf (requestDue em)) t (baselineOf (requestDue em) t (em .setup .measured))
+        (t + c .master) (dueData em))) (marks l)
     go-asked h =
         let k = go-due (em .state) h in
         let g = L .relM .ready k (d .idle) in
@@ -161,17 +162,17 @@ module _ (c : Clocks) (sm ss : Settings) (p : Paired sm ss) {l : List Entry} {em
         let i = g .since in
         let o = L .relM .nextOut in
         let a = above-t in
-        m-goes (termsOf c sm ss) (small-of c sm ss p) t (em .setup .measured) (codeOf (requestOf (em .state)))
-        (baselineOf (requestOf (em .state)) t (em .setup .measured)) (setupData (em .settings) (requestOf (em .state)))
+        m-goes (termsOf c sm ss) (small-of c sm ss p) t (em .setup .measured) (codeOf (requestDue em))
+        (baselineOf (requestDue em) t (em .setup .measured)) (dueData em)
         (g .phase) refl (omega arith) (omega arith) (L .inv)
 
     pub requested-m : Linked c sm ss (t + c .master) (l ++ (asking ∷ [])) (requestedOf em t) es tm ts
     requested-m =
         let q = L .relM in
         let n = setup-not-refresh (em .state) (d .setup) in
-        wrote (requestedOf em t) asking (codeOf (requestOf (em .state)))
-        (baselineOf (requestOf (em .state)) t (em .setup .measured))
-        (setupData (em .settings) (requestOf (em .state))) (asked (codeOf (requestOf (em .state))) t) (L .setM)
+        wrote (requestedOf em t) asking (codeOf (requestDue em))
+        (baselineOf (requestDue em) t (em .setup .measured))
+        (dueData em) (asked (codeOf (requestDue em)) t) (L .setM)
         asked-mark asked-honest
         above-t go-asked refl
         (record {
@@ -180,7 +181,7 @@ module _ (c : Clocks) (sm ss : Settings) (p : Paired sm ss) {l : List Entry} {em
           held = q .held;
           live = λ h. absurd (true≢false (sym h ∙ n));
           pend = λ h s e. let z : s ≡ t = (let y : timeOf em t ≡ s = cc in sym y ∙ time) in record
-              { since = z; phase = ap (asked (codeOf (requestOf (em .state)))) (sym z) };
+              { since = z; phase = ap (asked (codeOf (requestDue em))) (sym z) };
           ready = λ h e. let z : _≡_ {A = ℕ} 0 1 = cc in absurd (omega arith);
         })
 
@@ -270,8 +271,8 @@ module _ (c : Clocks) (sm ss : Settings) (p : Paired sm ss) {l : List Entry} {em
 
     -- the reply to the pending request
     module _ (d : ReplyTaken em t f body) (x : isExpired em t ≡ false) where
-      due : f .command ≡ requestOf (em .state)
-      due = is-eq (f .command) (requestOf (em .state)) (d .command)
+      due : f .command ≡ requestDue em
+      due = is-eq (f .command) (requestDue em) (d .command)
 
       not-refresh : is (f .command) K.Refresh ≡ false
       not-refresh = ap (λ (q : Command). is q K.Refresh) due ∙ request-not-refresh (em .state)

@@ -19,17 +19,19 @@ use Rattle.endpoint.specs.declared.Timestamps.{Timestamps}
 use Rattle.endpoint.specs.declared.Endpoint.{Endpoint}
 use Rattle.endpoint.specs.declared.Next.{Next}
 use Rattle.endpoint.specs.Table.{isState, isNo, nextOf, stateTo}
-use Rattle.endpoint.specs.Time.{span, minus, isExpired, isAbove, endedOf, allowanceOf, offsetFrom, timeOf}
+use Rattle.endpoint.specs.Due.{isBusy}
+use Rattle.endpoint.specs.Time.{lastReading, span, minus, isExpired, isAbove, endedOf, allowanceOf, offsetFrom}
+use Rattle.endpoint.specs.Time.{timeOf, ageOf}
 use Rattle.endpoint.specs.Updates.{withNotReady}
 use Rattle.transitions.specs.ByCall.{restartedOf, refreshSentOf, stoppedOf}
-use Rattle.transitions.specs.ByFrame.{refreshedOf, measuredBy, advancedOf, endedBy, isBusy, deferredOf}
+use Rattle.transitions.specs.ByFrame.{refreshedOf, measuredBy, advancedOf, endedBy, deferredOf}
 use Rattle.steps.specs.Frames.{refreshFields, replyFields}
 use Rattle.steps.specs.Calls.{isFailSafe, shownOf}
-use Rattle.steps.specs.Deliveries.{ageOf, paddedOf}
+use Rattle.steps.specs.Deliveries.{paddedOf}
 use Rattle.steps.specs.Laws.{RefreshSent, RequestTaken, RefreshTaken}
 use Rattle.steps.proofs.Dispatch.{cond-true}
 use Rattle.steps.proofs.Keeps.{bcase}
-use Rattle.link.specs.Runs.{Clocks, clockLimit, Entry}
+use Rattle.link.specs.Runs.{Clocks, Entry}
 use Rattle.link.specs.Fresh.{Paired}
 use Rattle.link.proofs.Marks.{Mark, mark, at, snoc}
 use Rattle.link.proofs.Ages.{Young}
@@ -43,7 +45,7 @@ use Rattle.link.proofs.Shown.{ShownAt, in-refresh, held-shown}
 use Rattle.link.proofs.Codes.{refresh-not-setup, pending-setup, targetOf, leads, go-from, busy-from}
 
 module _ (c : Clocks) (sm ss : Settings) (p : Paired sm ss) {l : List Entry} {em es : Endpoint} {tm ts : ℕ} (t : ℕ)
-    (lim : t ≤ clockLimit)
+    (lim : t ≤ lastReading)
     (L : Linked c sm ss (t + c .slave) l em es tm ts) where
   role : es .settings .slave ≡ true
   role = ap (λ (s : Settings). s .slave) (L .setS) ∙ p .slave

@@ -13,7 +13,7 @@ use Rattle.endpoint.specs.declared.Endpoint.{Endpoint}
 use Rattle.endpoint.specs.declared.Answer.{Answer}
 use Rattle.endpoint.specs.declared.Answer.the-variants.{Done, Dropped, Ended}
 use Rattle.endpoint.specs.Answers.{firstOf, isDropped}
-use Rattle.endpoint.specs.Time.{isExpired, isAbove, endedOf}
+use Rattle.endpoint.specs.Time.{lastReading, isExpired, isAbove, endedOf}
 use Rattle.transitions.specs.ByCall.{stoppedOf}
 use Rattle.transitions.specs.ByFrame.{endedBy}
 use Rattle.steps.specs.Frames.{nothing}
@@ -25,7 +25,7 @@ use Rattle.steps.proofs.Dones.{send-done, stop-done, refresh-done, request-done
 use Rattle.steps.proofs.Firsts.{not-dropped}
 use Rattle.steps.proofs.Keeps.{bcase}
 use Rattle.steps.specs.Steps.{stop, Call, act, send, deliver}
-use Rattle.link.specs.Runs.{Clocks, clockLimit, callOf, Entry, logged, mayDeliver, tookBy}
+use Rattle.link.specs.Runs.{Clocks, callOf, Entry, logged, mayDeliver, tookBy}
 use Rattle.link.specs.Fresh.{Paired}
 use Rattle.link.proofs.Relation.{Linked}
 use Rattle.link.proofs.Entries.{FoundAt}
@@ -41,7 +41,7 @@ other-bit false true h = refl
 other-bit false false h = absurd (true≢false h)
 
 module _ (c : Clocks) (sm ss : Settings) (p : Paired sm ss) {l : List Entry} {em es : Endpoint} {tm ts : ℕ} (t : ℕ)
-    (lim : t ≤ clockLimit) where
+    (lim : t ≤ lastReading) where
   -- ---- the master
   module _ (L : Linked c sm ss (t + c .master) l em es tm ts) where
     role : em .settings .slave ≡ false

@@ -18,11 +18,13 @@ use Rattle.endpoint.specs.declared.Timestamp.the-variants.{Never, At}
 use Rattle.endpoint.specs.declared.Pending.the-variants.{Nothing, Asked}
 use Rattle.endpoint.specs.declared.Value.{Value}
 use Rattle.endpoint.specs.declared.Endpoint.{Endpoint}
-use Rattle.endpoint.specs.Table.{isState, isSetup, requestOf}
-use Rattle.endpoint.specs.Time.{span, half, masterTime, isAbove, isAhead, isTooFarAhead, isTooLate, isExpired, timeOf}
+use Rattle.endpoint.specs.Table.{isState, isSetup}
+use Rattle.endpoint.specs.Due.{requestDue}
+use Rattle.endpoint.specs.Time.{lastReading, span, half, masterTime, isAbove, isAhead, isTooFarAhead, isTooLate}
+use Rattle.endpoint.specs.Time.{isExpired, timeOf}
 use Rattle.steps.specs.Frames.{showWidth}
 use Rattle.steps.specs.Deliveries.{paddedOf}
-use Rattle.link.specs.Runs.{Clocks, clockLimit, Entry, entryAt}
+use Rattle.link.specs.Runs.{Clocks, Entry, entryAt}
 use Rattle.link.specs.Fresh.{Paired}
 use Rattle.link.proofs.Ages.{Young}
 use Rattle.link.proofs.Marks.{Mark, mark}
@@ -84,7 +86,7 @@ pub record LiveAtM (e : Endpoint) (m : Master) : Type 0 where
 
 pub record AskedAt (e : Endpoint) (m : Master) (s : ℕ) : Type 0 where
   pub since : s ≡ e .since
-  pub phase : m .phase ≡ asked (codeOf (requestOf (e .state))) s
+  pub phase : m .phase ≡ asked (codeOf (requestDue e)) s
 
 pub record GotAt (e : Endpoint) (m : Master) : Type 0 where
   pub phase : m .phase ≡ got (e .setup .measured)
@@ -162,7 +164,7 @@ module _ (e : Endpoint) (t : ℕ) (h : isExpired e t ≡ false) where
       (in-refresh (isSetup (e .state)) (isState (e .state) Refresh) r i h p) in
       omega arith
 
-pub master-time : (e : Endpoint) (t : ℕ) → e .settings .slave ≡ false → t ≤ clockLimit → timeOf e t ≡ t
+pub master-time : (e : Endpoint) (t : ℕ) → e .settings .slave ≡ false → t ≤ lastReading → timeOf e t ≡ t
 master-time e t h k =
     let p : masterTime (e .settings .slave) (e .setup .offset) t ≡ (t + 0) % span = ap
     (λ (b : Bool). masterTime b (e .setup .offset) t) h in

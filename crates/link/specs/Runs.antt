@@ -31,10 +31,6 @@ pub record Clocks : Type 0 where
 abbrev pub momentOf : Clocks → Bool → ℕ → ℕ
 momentOf c slave t = t + cond slave (c .slave) (c .master)
 
--- no clock is past it at a call
-abbrev pub clockLimit : ℕ
-clockLimit = lastReading
-
 -- ---- calls
 -- a call at the slave's end or the master's, with its clock reading
 pub record Event : Type 0 where
@@ -175,7 +171,7 @@ afterEvent c l v =
       masterTook = cond (v .slave) (l .masterTook) (tookBy (l .log) (v .call) (o .answer) (l .masterTook));
       slaveTook = cond (v .slave) (tookBy (l .log) (v .call) (o .answer) (l .slaveTook)) (l .slaveTook);
       latest = m;
-      allowed = l .allowed && (mayDeliver (l .log) (v .call) && (leb (l .latest) m && leb (v .clock) clockLimit));
+      allowed = l .allowed && (mayDeliver (l .log) (v .call) && (leb (l .latest) m && leb (v .clock) lastReading));
     }
 
 abbrev pub afterAll : Clocks → Link → List Event → Link

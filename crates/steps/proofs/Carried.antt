@@ -15,7 +15,8 @@ use Rattle.endpoint.specs.declared.Endpoint.{Endpoint}
 use Rattle.endpoint.specs.declared.Answer.the-variants.{Done}
 use Rattle.endpoint.specs.Answers.{firstOf, isDone, isDropped, isEnded}
 use Rattle.endpoint.specs.Table.{isState, isSetup}
-use Rattle.steps.specs.Calls.{Outcome, isNothing, mayRequest, sendFaults, sendOf, stopFaults, stopOf}
+use Rattle.endpoint.specs.Due.{isPending, mayRequest}
+use Rattle.steps.specs.Calls.{Outcome, sendFaults, sendOf, stopFaults, stopOf}
 use Rattle.steps.specs.Deliveries.{requestFaults, repliedOf, deliverOf}
 use Rattle.steps.specs.Laws.{Carries}
 use Rattle.steps.proofs.Dispatch.{cond-true, cond-false, deliver-echo, deliver-refresh, deliver-request}
@@ -35,7 +36,7 @@ may-request e t n k h =
 
 pub master-requests : (e : Endpoint) → mayRequest e ≡ true → e .settings .slave ≡ false
 master-requests e h = not-true (e .settings .slave)
-    (and-left (not (e .settings .slave)) (isSetup (e .state) && isNothing (e .setup .pending)) h)
+    (and-left (not (e .settings .slave)) (isSetup (e .state) && not (isPending (e .setup .pending))) h)
 
 module _ (e : Endpoint) (t : ℕ) where
   pub send-carries : (value : List ℕ) → Carries e (sendOf e t value .writes)

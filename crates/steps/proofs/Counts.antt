@@ -16,7 +16,7 @@ use Rattle.endpoint.specs.declared.State.the-variants.{RefreshPending, Refresh,
 use Rattle.endpoint.specs.declared.Endpoint.{Endpoint}
 use Rattle.endpoint.specs.Answers.{firstOf, isDone, isDropped}
 use Rattle.endpoint.specs.Table.{isState, requestOf}
-use Rattle.transitions.specs.ByCall.{requestLimit}
+use Rattle.endpoint.specs.Due.{requestLimit}
 use Rattle.steps.specs.Calls.{Outcome, startOf, restartOf, setNotReadyOf, sendOf, stopFaults, stopOf}
 use Rattle.steps.specs.Deliveries.{requestFaults, repliedOf, deliverOf}
 use Rattle.steps.specs.Steps.{start, stop, restart, setNotReady, Call, act, send, deliver, show, stepOf}

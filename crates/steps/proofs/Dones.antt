@@ -22,13 +22,13 @@ use Rattle.endpoint.specs.declared.Reason.the-variants as R
 use Rattle.endpoint.specs.declared.Answer.{Answer}
 use Rattle.endpoint.specs.declared.Answer.the-variants.{Done, Dropped, Ended}
 use Rattle.endpoint.specs.Answers.{firstOf, isDone, isDropped}
-use Rattle.endpoint.specs.Table.{isState, isSetup, requestOf}
+use Rattle.endpoint.specs.Table.{isState, isSetup}
+use Rattle.endpoint.specs.Due.{requestDue, isPending, answersTo, mayRequest, requestLimit, isExhausted}
 use Rattle.endpoint.specs.Time.{isAbove, endedOf, timeOf}
-use Rattle.transitions.specs.ByCall.{requestLimit, isExhausted}
-use Rattle.steps.specs.Frames.{nothing, setupData, showWidth}
-use Rattle.steps.specs.Calls.{Outcome, outcome, dropped, refused, startOf, restartOf, setNotReadyOf, isNothing}
-use Rattle.steps.specs.Calls.{mayRequest, sendFaults, sendOf, stopFaults, stopOf}
-use Rattle.steps.specs.Deliveries.{isAsked, answersTo, refreshFaults, requestFaults, replyFaults, takeRefresh}
+use Rattle.steps.specs.Frames.{nothing, setupData, dueData, showWidth}
+use Rattle.steps.specs.Calls.{Outcome, outcome, dropped, refused, startOf, restartOf, setNotReadyOf}
+use Rattle.steps.specs.Calls.{sendFaults, sendOf, stopFaults, stopOf}
+use Rattle.steps.specs.Deliveries.{refreshFaults, requestFaults, replyFaults, takeRefresh}
 use Rattle.steps.specs.Deliveries.{takeRequest, takeReply, deliverOf}
 use Rattle.steps.specs.Laws.{StartDone, RestartDone, NotReadySet, RefreshSent, RequestSent, StopDone}
 use Rattle.steps.specs.Laws.{RefreshTaken, RequestTaken, DisconnectTaken, ReplyTaken}
@@ -47,7 +47,7 @@ dropped-not-done Done h p = false≢true h
 dropped-not-done (Dropped r) h p = not-done r p
 dropped-not-done (Ended r) h p = false≢true h
 
-idle-is : (p : Pending) → isNothing p ≡ true → p ≡ Nothing
+idle-is : (p : Pending) → not (isPending p) ≡ true → p ≡ Nothing
 idle-is Nothing h = refl
 idle-is (Asked t) h = absurd (false≢true h)
 
@@ -112,11 +112,11 @@ module _ (e : Endpoint) (t : ℕ) where
       (λ k. inl (record { refresh = k; width = sent-width e t n k h; above = above-sent n h; comes = rw (i, k) }))
       (λ k.
       let m = may-request e t n k h in
-      let u = and-right (not (e .settings .slave)) (isSetup (e .state) && isNothing (e .setup .pending)) m in
+      let u = and-right (not (e .settings .slave)) (isSetup (e .state) && not (isPending (e .setup .pending))) m in
       inr (record {
         master = master-requests e m;
-        setup = and-left (isSetup (e .state)) (isNothing (e .setup .pending)) u;
-        idle = idle-is (e .setup .pending) (and-right (isSetup (e .state)) (isNothing (e .setup .pending)) u);
+        setup = and-left (isSetup (e .state)) (not (isPending (e .setup .pending))) u;
+        idle = idle-is (e .setup .pending) (and-right (isSetup (e .state)) (not (isPending (e .setup .pending))) u);
         few = few-requests n h m;
         above = above-sent n h;
         comes = rw (i, k);
@@ -213,21 +213,21 @@ module _ (e : Endpoint) (t : ℕ) where
   pub reply-done : (f : Fields) (body : List ℕ) → takeReply e t f body .answer ≡ Done → ReplyTaken e t f body
   reply-done f body d =
       let n = first-done (replyFaults e f body) d in
-      let due = requestOf (e .state) in
-      let s = same body (setupData (e .settings) due) in
+      let due = requestDue e in
+      let s = same body (dueData e) in
       let x = isSetup (e .state) in
-      let y = f .ack && (isAsked (e .setup .pending) && is (f .command) due) in
-      let z = isAsked (e .setup .pending) && is (f .command) due in
+      let y = f .ack && (isPending (e .setup .pending) && is (f .command) due) in
+      let z = isPending (e .setup .pending) && is (f .command) due in
       let turn : (x && y) ≡ true = not-false (x && y) (n .turn) in
       let u = neither (f .error) (not s) (n .unequal) in
       record {
         setup = and-left x y turn;
         pending = answers-is (e .setup .pending) (f .timestamp)
             (not-false (answersTo (e .setup .pending) (f .timestamp)) (n .repeat));
-        command = and-right (isAsked (e .setup .pending)) (is (f .command) due)
+        command = and-right (isPending (e .setup .pending)) (is (f .command) due)
             (and-right (f .ack) z (and-right x y turn));
         sound = u .0;
-        contents = same-eq body (setupData (e .settings) due) (not-false s (u .1));
+        contents = same-eq body (dueData e) (not-false s (u .1));
         comes = rw d;
       }
 

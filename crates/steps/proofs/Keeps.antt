@@ -15,7 +15,8 @@ use Rattle.endpoint.specs.declared.State.the-variants.{Close, Refresh, Terminat
 use Rattle.endpoint.specs.Answers.{firstOf, isDone, isDropped, leftBy}
 use Rattle.endpoint.specs.Table.{isState}
 use Rattle.endpoint.specs.Time.{endedOf}
-use Rattle.transitions.specs.ByFrame.{isBusy, deferredOf, answeredOf, takenOf, endedBy, advancedOf, refreshedOf}
+use Rattle.endpoint.specs.Due.{isBusy}
+use Rattle.transitions.specs.ByFrame.{deferredOf, answeredOf, takenOf, endedBy, advancedOf, refreshedOf}
 use Rattle.transitions.specs.ByFrame.{confirmedOf, dueAgainOf, heardOf}
 use Rattle.steps.specs.Calls.{Outcome, refused, startOf, restartOf, setNotReadyOf, sendFaults, sendOf, stopFaults}
 use Rattle.steps.specs.Calls.{stopOf}

@@ -16,8 +16,9 @@ use Rattle.endpoint.specs.declared.Settings.{Settings}
 use Rattle.endpoint.specs.declared.State.the-variants.{Refresh}
 use Rattle.endpoint.specs.declared.Endpoint.{Endpoint}
 use Rattle.endpoint.specs.Answers.{firstOf, isDone, isDropped}
-use Rattle.endpoint.specs.Table.{isState, requestOf}
-use Rattle.steps.specs.Frames.{setupData, sentFields, baselineOf}
+use Rattle.endpoint.specs.Table.{isState}
+use Rattle.endpoint.specs.Due.{requestDue}
+use Rattle.steps.specs.Frames.{setupData, dueData, sentFields, baselineOf}
 use Rattle.steps.specs.Calls.{Outcome, sendFaults, sendOf, stopFaults, stopOf}
 use Rattle.steps.specs.Deliveries.{requestFaults, repliedOf, deliverOf}
 use Rattle.steps.specs.Laws.{SettingsFit, IsTyped}
@@ -63,9 +64,9 @@ module _ (e : Endpoint) (t : ℕ) where
       bcase (isDone (firstOf (sendFaults e t (length value))))
       (λ d. rw d (bcase (isState (e .state) Refresh)
       (λ k. rw k (sent-typed _ _ _ _ _ value (h .connection) (lit< tt) r))
-      (λ k. rw k (sent-typed _ _ _ _ _ (setupData (e .settings) (requestOf (e .state))) (h .connection)
-      (baseline-fits (requestOf (e .state)) t (e .setup .measured))
-      (data-bytes (e .settings) (requestOf (e .state)) h)))))
+      (λ k. rw k (sent-typed _ _ _ _ _ (dueData e) (h .connection)
+      (baseline-fits (requestDue e) t (e .setup .measured))
+      (data-bytes (e .settings) (requestDue e) h)))))
       (λ d. rw d tt)
 
   pub stop-typed : SettingsFit (e .settings) → IsTyped (stopOf e t .writes)

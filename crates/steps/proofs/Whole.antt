@@ -21,10 +21,10 @@ use Rattle.endpoint.specs.declared.State.the-variants.{Close, Starting, Establi
 use Rattle.endpoint.specs.declared.State.the-variants.{RefreshPending, Refresh, Terminate}
 use Rattle.endpoint.specs.declared.Endpoint.{Endpoint}
 use Rattle.endpoint.specs.Table.{requestOf}
+use Rattle.endpoint.specs.Due.{requestDue, isBusy}
 use Rattle.endpoint.specs.Time.{span, timeOf}
-use Rattle.transitions.specs.ByFrame.{isBusy}
-use Rattle.steps.specs.Frames.{setupData, widthOf, sendWidth, showWidth, sentFields, ackFields, baselineOf}
-use Rattle.steps.specs.Frames.{requestFields, refreshFields, disconnectFields, replyFields}
+use Rattle.steps.specs.Frames.{setupData, dueData, widthOf, sendWidth, showWidth, sentFields, ackFields}
+use Rattle.steps.specs.Frames.{baselineOf, requestFields, refreshFields, disconnectFields, replyFields}
 use Rattle.steps.specs.Says.{WholeSays}
 
 pub whole : (f : Fields) (body out : List ℕ) {out′ : List ℕ} {count : ℕ} → 248 ≤ length out
@@ -94,11 +94,11 @@ writable f n h t l = both h (both (lt-ltb (f .timestamp) (2 ^ 48) t) l)
 
 -- ---- every frame that an endpoint writes can be written
 module _ (e : Endpoint) (t : ℕ) where
-  pub request-writable : isWritable (requestFields e t) (length (setupData (e .settings) (requestOf (e .state)))) ≡ true
+  pub request-writable : isWritable (requestFields e t) (length (dueData e)) ≡ true
   request-writable =
-      writable (requestFields e t) (length (setupData (e .settings) (requestOf (e .state))))
+      writable (requestFields e t) (length (dueData e))
       (request-form (e .state) (e .settings .connection) (timeOf e t) t (e .setup .measured)) (omega arith)
-      (setup-length (e .settings) (requestOf (e .state)))
+      (setup-length (e .settings) (requestDue e))
 
   pub refresh-writable : (n : ℕ) → isBodyLength n ≡ true → isWritable (refreshFields e t) n ≡ true
   unfolding hasForm

@@ -6,19 +6,18 @@ use lib.Dec.{eqb}
 use lib.ListN.{length, take, replicate}
 use Rattle.frame.specs.declared.Command.the-variants as K
 use Rattle.endpoint.specs.declared.State.the-variants.{Close, Refresh, Terminate}
-use Rattle.endpoint.specs.declared.Pending.{Pending}
-use Rattle.endpoint.specs.declared.Pending.the-variants.{Nothing, Asked}
 use Rattle.endpoint.specs.declared.Endpoint.{Endpoint}
 use Rattle.endpoint.specs.declared.Reason.the-variants as R
 use Rattle.endpoint.specs.declared.Answer.{Answer}
 use Rattle.endpoint.specs.declared.Answer.the-variants.{Done, Dropped}
 use Rattle.endpoint.specs.declared.Faults.{Faults}
 use Rattle.endpoint.specs.Answers.{callFaults, firstOf, isDone, isDropped, leftBy}
-use Rattle.endpoint.specs.Table.{isState, isSetup, requestOf}
+use Rattle.endpoint.specs.Table.{isState}
+use Rattle.endpoint.specs.Due.{mayRequest, isExhausted}
 use Rattle.endpoint.specs.Time.{isAbove, endedOf, timeOf}
 use Rattle.endpoint.specs.Updates.{withNotReady}
-use Rattle.transitions.specs.ByCall.{startedOf, restartedOf, isExhausted, requestedOf, refreshSentOf, stoppedOf}
-use Rattle.steps.specs.Frames.{Written, nothing, written, setupData, sendWidth, showWidth, requestFields}
+use Rattle.transitions.specs.ByCall.{startedOf, restartedOf, requestedOf, refreshSentOf, stoppedOf}
+use Rattle.steps.specs.Frames.{Written, nothing, written, setupData, dueData, sendWidth, showWidth, requestFields}
 use Rattle.steps.specs.Frames.{refreshFields, disconnectFields}
 
 -- what a call comes to: its answer, the endpoint it leaves, what it writes
@@ -54,13 +53,6 @@ setNotReadyOf e b =
     cond (e .settings .slave) (outcome Done (withNotReady b e) nothing) (dropped e (Dropped R.Turn))
 
 -- ---- send: a master's next request in setup if none is pending; S-Refresh in Refresh
-abbrev pub isNothing : Pending → Bool
-isNothing Nothing = true
-isNothing (Asked t) = false
-
-abbrev pub mayRequest : Endpoint → Bool
-mayRequest e = not (e .settings .slave) && (isSetup (e .state) && isNothing (e .setup .pending))
-
 abbrev pub sendFaults : Endpoint → ℕ → ℕ → Faults
 sendFaults e t width =
     callFaults (not (isState (e .state) Refresh || mayRequest e))
@@ -71,7 +63,7 @@ sendFaults e t width =
 abbrev pub sentOf : Endpoint → ℕ → List ℕ → Outcome
 sentOf e t value =
     cond (isState (e .state) Refresh) (outcome Done (refreshSentOf e t) (written (refreshFields e t) value))
-    (outcome Done (requestedOf e t) (written (requestFields e t) (setupData (e .settings) (requestOf (e .state)))))
+    (outcome Done (requestedOf e t) (written (requestFields e t) (dueData e)))
 
 abbrev pub sendOf : Endpoint → ℕ → List ℕ → Outcome
 sendOf e t value =

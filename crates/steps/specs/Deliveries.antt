@@ -1,5 +1,5 @@
 -- What a frame of this connection does when it is delivered: fields and body as the reader gives them.
-use mathlib.Core.Bool.{Bool, true, false, _&&_, _||_, not, cond, Bool·beq}
+use mathlib.Core.Bool.{_&&_, _||_, not, cond, Bool·beq}
 use mathlib.Core.List.{List, _++_}
 use Prim.Native.Nat.{ℕ}
 use lib.Dec.{eqb}
@@ -9,36 +9,26 @@ use Rattle.frame.specs.declared.Fields.{Fields}
 use Rattle.frame.specs.Control.{is}
 use Rattle.frame.specs.Reading.{same}
 use Rattle.endpoint.specs.declared.State.the-variants.{Refresh}
-use Rattle.endpoint.specs.declared.Pending.{Pending}
-use Rattle.endpoint.specs.declared.Pending.the-variants.{Nothing, Asked}
 use Rattle.endpoint.specs.declared.Endpoint.{Endpoint}
 use Rattle.endpoint.specs.declared.Reason.the-variants as R
 use Rattle.endpoint.specs.declared.Answer.{Answer}
 use Rattle.endpoint.specs.declared.Answer.the-variants.{Dropped}
 use Rattle.endpoint.specs.declared.Faults.{Faults}
-use Rattle.endpoint.specs.Answers.{setupFaults, firstOf, isDone, isDropped, isEnded, leftBy}
-use Rattle.endpoint.specs.Table.{isState, isSetup, nextOf, isNo, requestOf}
-use Rattle.endpoint.specs.Time.{minus, isAbove, isTooFarAhead, allowanceOf, isTooLate, endedOf, timeOf}
-use Rattle.transitions.specs.ByFrame.{refreshedOf, endedBy, isBusy, takenOf, heardOf}
-use Rattle.steps.specs.Frames.{Written, nothing, written, setupData, showWidth, replyFields}
+use Rattle.endpoint.specs.Answers.{setupFaults, valueFaults, firstOf, isDone, isDropped, isEnded, leftBy}
+use Rattle.endpoint.specs.Table.{isState, isSetup, nextOf, isNo}
+use Rattle.endpoint.specs.Due.{requestDue, isPending, answersTo, isBusy}
+use Rattle.endpoint.specs.Time.{ageOf, isAbove, isTooFarAhead, allowanceOf, isTooLate, endedOf}
+use Rattle.transitions.specs.ByFrame.{refreshedOf, endedBy, takenOf, heardOf}
+use Rattle.steps.specs.Frames.{Written, nothing, written, setupData, dueData, showWidth, replyFields}
 use Rattle.steps.specs.Calls.{Outcome, outcome, dropped}
 
 -- ---- S-Refresh, at either end
--- the timestamp's age: the receiver's time in the master's clock, less the timestamp
-abbrev pub ageOf : Endpoint → ℕ → ℕ → ℕ
-ageOf e t stamp = minus (timeOf e t) stamp
-
 abbrev pub refreshFaults : Endpoint → ℕ → ℕ → ℕ → Faults
-refreshFaults e t stamp width = record {
-  turn = not (isState (e .state) Refresh);
-  width = not (eqb width (showWidth (e .settings)));
-  exhausted = false;
-  repeat = not (isAbove (e .timestamps .accepted) stamp);
-  ahead = isTooFarAhead (ageOf e t stamp) (allowanceOf (e .settings));
-  late = isTooLate (ageOf e t stamp) (e .settings .age);
-  unequal = false;
-  soon = false;
-}
+refreshFaults e t stamp width =
+    valueFaults (not (isState (e .state) Refresh)) (not (eqb width (showWidth (e .settings))))
+    (not (isAbove (e .timestamps .accepted) stamp))
+    (isTooFarAhead (ageOf e t stamp) (allowanceOf (e .settings)))
+    (isTooLate (ageOf e t stamp) (e .settings .age))
 
 -- a body in an array of 100, with zeros after it
 abbrev pub paddedOf : List ℕ → List ℕ
@@ -69,21 +59,13 @@ takeRequest e t f body =
     outcome a (leftBy a e (endedBy e (f .timestamp)) (takenOf e t f)) (repliedOf e f body a)
 
 -- ---- a reply at a master: to its pending request
-abbrev pub isAsked : Pending → Bool
-isAsked Nothing = false
-isAsked (Asked stamp) = true
-
-abbrev pub answersTo : Pending → ℕ → Bool
-answersTo Nothing stamp = false
-answersTo (Asked asked) stamp = eqb asked stamp
-
 abbrev pub replyFaults : Endpoint → Fields → List ℕ → Faults
 replyFaults e f body =
     setupFaults
-    (not (isSetup (e .state) && (f .ack && (isAsked (e .setup .pending) && is (f .command) (requestOf (e .state))))))
-    (not (eqb (length body) (length (setupData (e .settings) (requestOf (e .state))))))
+    (not (isSetup (e .state) && (f .ack && (isPending (e .setup .pending) && is (f .command) (requestDue e)))))
+    (not (eqb (length body) (length (dueData e))))
     (not (answersTo (e .setup .pending) (f .timestamp)))
-    (f .error || not (same body (setupData (e .settings) (requestOf (e .state)))))
+    (f .error || not (same body (dueData e)))
 
 abbrev pub takeReply : Endpoint → ℕ → Fields → List ℕ → Outcome
 takeReply e t f body =

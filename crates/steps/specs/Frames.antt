@@ -12,7 +12,7 @@ use Rattle.frame.specs.Control.{is}
 use Rattle.frame.specs.Writing.{frameBytes}
 use Rattle.endpoint.specs.declared.Settings.{Settings}
 use Rattle.endpoint.specs.declared.Endpoint.{Endpoint}
-use Rattle.endpoint.specs.Table.{requestOf}
+use Rattle.endpoint.specs.Due.{requestDue}
 use Rattle.endpoint.specs.Time.{span, timeOf}
 
 -- what a call writes
@@ -41,6 +41,10 @@ setupWords s K.Disconnect = 0 ∷ []
 
 unfoldable pub setupData : Settings → Command → List ℕ
 setupData s k = wordsBytes (setupWords s k)
+
+-- the same of the request due from a master
+abbrev pub dueData : Endpoint → List ℕ
+dueData e = setupData (e .settings) (requestDue e)
 
 -- bytes of a value of so many words; a count outside 1 to 25, which no loaded list has, is taken for 1
 abbrev pub widthOf : ℕ → ℕ
@@ -90,8 +94,8 @@ baselineOf k t measured = cond (is k K.RefreshGo) ((t - measured) % 65536) 0
 -- a master's setup request
 abbrev pub requestFields : Endpoint → ℕ → Fields
 requestFields e t =
-    sentFields (requestOf (e .state)) false (e .settings .connection) (timeOf e t)
-    (baselineOf (requestOf (e .state)) t (e .setup .measured))
+    sentFields (requestDue e) false (e .settings .connection) (timeOf e t)
+    (baselineOf (requestDue e) t (e .setup .measured))
 
 -- S-Refresh, of either end
 abbrev pub refreshFields : Endpoint → ℕ → Fields

@@ -16,16 +16,17 @@ use Rattle.endpoint.specs.declared.Pending.the-variants.{Nothing, Asked}
 use Rattle.endpoint.specs.declared.Endpoint.{Endpoint}
 use Rattle.endpoint.specs.declared.Reason.{Reason}
 use Rattle.endpoint.specs.declared.Answer.the-variants.{Done, Dropped}
-use Rattle.endpoint.specs.Table.{isState, isSetup, isNo, nextOf, requestOf}
+use Rattle.endpoint.specs.Table.{isState, isSetup, isNo, nextOf}
+use Rattle.endpoint.specs.Due.{requestDue, requestLimit, isBusy}
 use Rattle.endpoint.specs.Answers.{isDone}
-use Rattle.endpoint.specs.Time.{isAbove, isTooFarAhead, isTooLate, allowanceOf, timeOf}
+use Rattle.endpoint.specs.Time.{isAbove, isTooFarAhead, isTooLate, allowanceOf, timeOf, ageOf}
 use Rattle.endpoint.specs.Updates.{withNotReady}
-use Rattle.transitions.specs.ByCall.{startedOf, restartedOf, requestLimit, requestedOf, refreshSentOf, stoppedOf}
-use Rattle.transitions.specs.ByFrame.{refreshedOf, isBusy, answeredOf, endedBy, heardOf}
-use Rattle.steps.specs.Frames.{Written, nothing, written, setupData, sendWidth, showWidth, requestFields}
+use Rattle.transitions.specs.ByCall.{startedOf, restartedOf, requestedOf, refreshSentOf, stoppedOf}
+use Rattle.transitions.specs.ByFrame.{refreshedOf, answeredOf, endedBy, heardOf}
+use Rattle.steps.specs.Frames.{Written, nothing, written, setupData, dueData, sendWidth, showWidth, requestFields}
 use Rattle.steps.specs.Frames.{refreshFields, replyFields, isRequest}
 use Rattle.steps.specs.Calls.{outcome, dropped, disconnectOf, startOf, restartOf, setNotReadyOf, sendOf, stopOf}
-use Rattle.steps.specs.Deliveries.{paddedOf, takeRefresh, takeRequest, takeReply, ageOf}
+use Rattle.steps.specs.Deliveries.{paddedOf, takeRefresh, takeRequest, takeReply}
 use Rattle.steps.specs.Steps.{begins, Call, act, send, deliver, show, stepOf}
 
 -- what is written can be written, and carries the endpoint's CID and its role's Application bit
@@ -95,7 +96,7 @@ pub record RequestSent (e : Endpoint) (t : ℕ) (value : List ℕ) : Type 0 wher
   pub few : e .setup .requests < requestLimit
   pub above : isAbove (e .timestamps .sent) (timeOf e t) ≡ true
   pub comes : sendOf e t value
-      ≡ outcome Done (requestedOf e t) (written (requestFields e t) (setupData (e .settings) (requestOf (e .state))))
+      ≡ outcome Done (requestedOf e t) (written (requestFields e t) (dueData e))
 
 pub record StopDone (e : Endpoint) (t : ℕ) : Type 0 where
   pub begun : isState (e .state) Close ≡ false
@@ -126,9 +127,9 @@ pub record DisconnectTaken (e : Endpoint) (t : ℕ) (f : Fields) (body : List �
 pub record ReplyTaken (e : Endpoint) (t : ℕ) (f : Fields) (body : List ℕ) : Type 0 where
   pub setup : isSetup (e .state) ≡ true
   pub pending : e .setup .pending ≡ Asked (f .timestamp)
-  pub command : is (f .command) (requestOf (e .state)) ≡ true
+  pub command : is (f .command) (requestDue e) ≡ true
   pub sound : f .error ≡ false
-  pub contents : body ≡ setupData (e .settings) (requestOf (e .state))
+  pub contents : body ≡ dueData e
   pub comes : takeReply e t f body ≡ outcome Done (heardOf e t f) nothing
 
 pub record StepLaws : Type 0 where

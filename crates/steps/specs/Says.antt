@@ -5,29 +5,31 @@ use mathlib.Core.List.{List, []}
 use Prim.Native.Nat.{ℕ, _≤_}
 use lib.Dec.{ltb}
 use lib.ListN.{length, take}
-use Rattle.frame.specs.declared.Command.{Command}
 use Rattle.frame.specs.declared.Fields.{Fields}
 use Rattle.frame.specs.Output.{over}
 use Rattle.frame.specs.Writing.{frameBytes}
-use Rattle.endpoint.specs.declared.Settings.{Settings}
 use Rattle.endpoint.specs.declared.Endpoint.{Endpoint}
 use Rattle.endpoint.specs.declared.Reason.the-variants as R
 use Rattle.endpoint.specs.declared.Answer.{Answer}
 use Rattle.endpoint.specs.declared.Answer.the-variants.{Dropped}
 use Rattle.steps.specs.declared.Stepped.{Stepped}
 use Rattle.steps.specs.declared.Shown.{Shown}
-use Rattle.steps.specs.Frames.{bytesOf, setupData}
+use Rattle.steps.specs.declared.frames.SetupData.{SetupData}
+use Rattle.steps.specs.Frames.{bytesOf}
 use Rattle.steps.specs.Calls.{Outcome, dropped, isFailSafe, shownOf}
 
 -- number 2: the lent output is under 248 bytes
 abbrev pub withRoom : ℕ → Endpoint → Outcome → Outcome
 withRoom room e o = cond (ltb room 248) (dropped e (Dropped R.Buffer)) o
 
--- the data of a setup request, as the first bytes of an array
-pub record DataSays (s : Settings) (k : Command) (bytes : List ℕ) (count : ℕ) : Type 0 where
-  pub counted : count ≡ length (setupData s k)
-  pub holds : take count bytes ≡ setupData s k
-  pub fits : count ≤ length bytes
+-- the data of a setup request: the first bytes of an array
+abbrev pub bytesIn : SetupData → List ℕ
+bytesIn d = take (d .length) (d .bytes)
+
+pub record DataSays (carried : List ℕ) (d : SetupData) : Type 0 where
+  pub counted : d .length ≡ length carried
+  pub holds : bytesIn d ≡ carried
+  pub fits : d .length ≤ length (d .bytes)
 
 abbrev pub steppedOf : Answer → Endpoint → ℕ → Stepped
 steppedOf a e n = record { answer = a; endpoint = e; count = n }

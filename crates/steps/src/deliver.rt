@@ -8,56 +8,51 @@ ghost use Rattle.frame.specs.declared.Command.the-variants as K;
 ghost use Rattle.frame.specs.Control.{is};
 ghost use Rattle.frame.specs.Reading.{same};
 ghost use Rattle.endpoint.specs.Answers.{firstOf};
-ghost use Rattle.steps.specs.Frames.{setupData};
-ghost use Rattle.steps.specs.Deliveries.{ageOf, refreshFaults, paddedOf, takeRefresh, requestFaults, takeRequest};
-ghost use Rattle.steps.specs.Deliveries.{isAsked, answersTo, replyFaults, takeReply, deliverOf};
-ghost use Rattle.steps.specs.Says.{plainStep, withRoom, StepSays};
+ghost use Rattle.steps.specs.Deliveries.{refreshFaults, paddedOf, takeRefresh, requestFaults, takeRequest};
+ghost use Rattle.steps.specs.Deliveries.{replyFaults, takeReply, deliverOf};
+ghost use Rattle.steps.specs.Says.{bytesIn, plainStep, withRoom, StepSays};
 use super::Stepped;
+use super::frames::SetupData;
+use super::frames::due_data;
+use super::frames::reply_fields;
+use super::frames::setup_data;
+use super::frames::show_width;
+use super::frames::write_whole;
 use super::lifecycle::stepped;
-use super::requests::reply_fields;
-use super::requests::setup_data;
-use super::requests::show_width;
-use super::requests::write_whole;
 use endpoint::Answer;
 use endpoint::Endpoint;
-use endpoint::Faults;
-use endpoint::Pending;
 use endpoint::Reason;
-use endpoint::Settings;
 use endpoint::State;
 use endpoint::answers::first_of;
 use endpoint::answers::is_done;
 use endpoint::answers::is_dropped;
 use endpoint::answers::is_ended;
 use endpoint::answers::left_by;
+use endpoint::answers::setup_faults;
+use endpoint::answers::value_faults;
+use endpoint::due::answers_to;
+use endpoint::due::is_busy;
+use endpoint::due::is_pending;
+use endpoint::due::request_due;
 use endpoint::table::is_no;
 use endpoint::table::is_setup;
 use endpoint::table::is_state;
 use endpoint::table::next_state;
-use endpoint::table::request_of;
+use endpoint::time::age_of;
 use endpoint::time::allowance;
 use endpoint::time::ended;
 use endpoint::time::is_above;
 use endpoint::time::is_too_far_ahead;
 use endpoint::time::is_too_late;
-use endpoint::time::minus;
-use endpoint::time::time_of;
 use frame::Command;
 use frame::Fields;
+use frame::LONGEST_FRAME;
 use frame::control::is;
 use frame::read::same;
 use transitions::by_frame::ended_by;
 use transitions::by_frame::heard;
-use transitions::by_frame::is_busy;
 use transitions::by_frame::refreshed;
 use transitions::by_frame::taken;
-
-// A timestamp's age at an endpoint.
-fn age_of(e: Endpoint, clock: u64, stamp: u64) -> u64
-    ensures { λ r. ⌜ r ≡ ageOf e clock stamp ⌝ }
-{
-    minus(time_of(e, clock), stamp)
-}
 
 fn refresh_answer(e: Endpoint, clock: u64, stamp: u64, width: usize) -> Answer
     ensures { λ r. ⌜ r ≡ firstOf (refreshFaults e clock stamp width) ⌝ }
@@ -72,16 +67,7 @@ fn refresh_answer(e: Endpoint, clock: u64, stamp: u64, width: usize) -> Answer
     let age = age_of(e, clock, stamp);
     let ahead = is_too_far_ahead(age, allowance(settings));
     let late = is_too_late(age, settings.age);
-    first_of(Faults {
-        turn: !refresh,
-        width: width != due,
-        exhausted: false,
-        repeat: !above,
-        ahead: ahead,
-        late: late,
-        unequal: false,
-        soon: false,
-    })
+    first_of(value_faults(!refresh, width != due, !above, ahead, late))
 }
 
 // The first n bytes of a body, with zeros after them.
@@ -116,20 +102,13 @@ fn take_refresh(e: Endpoint, clock: u64, stamp: u64, body: &[u8]) -> Stepped
     stepped(answer, left_by(answer, e, ended(e), next), 0)
 }
 
-fn data_length(s: Settings, k: Command) -> usize
-    ensures { λ r. ⌜ r ≡ length (setupData s k) ⌝ }
-{
-    let data = setup_data(s, k);
-    data.length
-}
-
 // Whether a body is the data of a setup request.
-fn equals_data(body: &[u8], s: Settings, k: Command) -> bool
-    ensures { λ r. ⌜ r ≡ same (now (body .entry)) (setupData s k) ⌝ }
+fn is_data(body: &[u8], due: SetupData) -> bool
+    requires { ⌜ due .length ≤ length (due .bytes) ⌝ }
+    ensures { λ r. ⌜ r ≡ same (now (body .entry)) (bytesIn due) ⌝ }
 {
-    let data = setup_data(s, k);
-    let bytes = data.bytes;
-    let n = data.length;
+    let bytes = due.bytes;
+    let n = due.length;
     same(body, &bytes[..n])
 }
 
@@ -142,20 +121,11 @@ fn request_answer(e: Endpoint, f: Fields, body: &[u8]) -> Answer
     let last = timestamps.accepted;
     let k = f.command;
     let no = is_no(next_state(k, state));
-    let due = data_length(settings, k);
     let above = is_above(last, f.timestamp);
     let disconnect = is(k, Command::Disconnect);
-    let equal = equals_data(body, settings, k);
-    first_of(Faults {
-        turn: no,
-        width: body.len() != due,
-        exhausted: false,
-        repeat: !above,
-        ahead: false,
-        late: false,
-        unequal: !disconnect & !equal,
-        soon: false,
-    })
+    let data = setup_data(settings, k);
+    let equal = is_data(body, data);
+    first_of(setup_faults(no, body.len() != data.length, !above, !disconnect & !equal))
 }
 
 // A request at a slave, with its reply.
@@ -174,49 +144,25 @@ fn take_request(e: Endpoint, clock: u64, f: Fields, body: &[u8], out: &mut [u8])
     stepped(answer, next, count)
 }
 
-fn is_asked(pending: Pending) -> bool
-    ensures { λ r. ⌜ r ≡ isAsked pending ⌝ }
-{
-    match pending {
-        Pending::Nothing => false,
-        Pending::Asked(_) => true,
-    }
-}
-
-fn answers_to(pending: Pending, stamp: u64) -> bool
-    ensures { λ r. ⌜ r ≡ answersTo pending stamp ⌝ }
-{
-    match pending {
-        Pending::Nothing => false,
-        Pending::Asked(asked) => asked == stamp,
-    }
-}
-
 fn reply_answer(e: Endpoint, f: Fields, body: &[u8]) -> Answer
     ensures { λ r. ⌜ r ≡ firstOf (replyFaults e f (now (body .entry))) ⌝ }
 {
     let state = e.state;
-    let settings = e.settings;
     let setup = e.setup;
     let pending = setup.pending;
     let k = f.command;
-    let due = request_of(state);
     let in_setup = is_setup(state);
-    let asked = is_asked(pending);
-    let matches = is(k, due);
-    let length = data_length(settings, due);
+    let asked = is_pending(pending);
+    let matches = is(k, request_due(e));
     let answers = answers_to(pending, f.timestamp);
-    let equal = equals_data(body, settings, due);
-    first_of(Faults {
-        turn: !(in_setup & (f.ack & (asked & matches))),
-        width: body.len() != length,
-        exhausted: false,
-        repeat: !answers,
-        ahead: false,
-        late: false,
-        unequal: f.error | !equal,
-        soon: false,
-    })
+    let data = due_data(e);
+    let equal = is_data(body, data);
+    first_of(setup_faults(
+        !(in_setup & (f.ack & (asked & matches))),
+        body.len() != data.length,
+        !answers,
+        f.error | !equal,
+    ))
 }
 
 // A reply at a master.
@@ -232,7 +178,7 @@ pub fn deliver(e: Endpoint, clock: u64, f: Fields, body: &[u8], out: &mut [u8]) 
     ensures { λ r. ⌜ StepSays (withRoom (length (now (out .entry))) e (deliverOf e clock f (now (body .entry))))
         (now (out .entry)) (now (out .exit)) r ⌝ }
 {
-    if out.len() < 248 {
+    if out.len() < LONGEST_FRAME {
         return stepped(Answer::Dropped(Reason::Buffer), e, 0);
     }
     let echo = f.application == e.settings.slave;

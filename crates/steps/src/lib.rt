@@ -2,8 +2,8 @@
 // nothing of the table that holds the endpoint.
 
 pub mod deliver;
+mod frames;
 pub mod lifecycle;
-mod requests;
 pub mod send;
 pub mod show;
 pub mod station;

@@ -5,19 +5,21 @@ ghost use Rattle.endpoint.specs.Answers.{firstOf};
 ghost use Rattle.steps.specs.Calls.{startOf, restartOf, stopFaults, stopOf};
 ghost use Rattle.steps.specs.Says.{steppedOf, plainStep, withRoom, StepSays};
 use super::Stepped;
-use super::requests::disconnect_fields;
-use super::requests::write_setup;
+use super::frames::disconnect_fields;
+use super::frames::setup_data;
+use super::frames::write_data;
 use endpoint::Answer;
 use endpoint::Endpoint;
-use endpoint::Faults;
 use endpoint::Reason;
 use endpoint::State;
+use endpoint::answers::call_faults;
 use endpoint::answers::first_of;
 use endpoint::answers::is_dropped;
 use endpoint::table::is_state;
 use endpoint::time::is_above;
 use endpoint::time::time_of;
 use frame::Command;
+use frame::LONGEST_FRAME;
 use transitions::by_call::restarted;
 use transitions::by_call::started;
 use transitions::by_call::stopped;
@@ -63,16 +65,7 @@ fn stop_answer(e: Endpoint, clock: u64) -> Answer
     let turn = is_state(state, State::Close) | is_state(state, State::Terminate);
     let stamp = time_of(e, clock);
     let soon = !e.settings.slave & !is_above(sent, stamp);
-    first_of(Faults {
-        turn: turn,
-        width: false,
-        exhausted: false,
-        repeat: false,
-        ahead: false,
-        late: false,
-        unequal: false,
-        soon: soon,
-    })
+    first_of(call_faults(turn, false, false, soon))
 }
 
 // Terminate, from any state but Close and Terminate. A master's writes S-Disconnect.
@@ -80,7 +73,7 @@ pub fn stop(e: Endpoint, clock: u64, out: &mut [u8]) -> Stepped
     ensures { λ r. ⌜ StepSays (withRoom (length (now (out .entry))) e (stopOf e clock))
         (now (out .entry)) (now (out .exit)) r ⌝ }
 {
-    if out.len() < 248 {
+    if out.len() < LONGEST_FRAME {
         return stepped(Answer::Dropped(Reason::Buffer), e, 0);
     }
     let answer = stop_answer(e, clock);
@@ -91,11 +84,7 @@ pub fn stop(e: Endpoint, clock: u64, out: &mut [u8]) -> Stepped
         return stepped(Answer::Done, stopped(e, clock), 0);
     }
     let settings = e.settings;
-    let count = write_setup(
-        disconnect_fields(e, clock),
-        settings,
-        Command::Disconnect,
-        out,
-    );
+    let data = setup_data(settings, Command::Disconnect);
+    let count = write_data(disconnect_fields(e, clock), data, out);
     stepped(Answer::Done, stopped(e, clock), count)
 }

@@ -7,10 +7,11 @@ ghost use Rattle.frame.specs.Output.{over};
 ghost use Rattle.steps.specs.Calls.{isFailSafe, heldOr};
 ghost use Rattle.steps.specs.Says.{ShowSays};
 use super::Shown;
-use super::requests::show_width;
+use super::frames::show_width;
 use endpoint::Endpoint;
 use endpoint::State;
 use endpoint::table::is_state;
+use frame::LONGEST_FRAME;
 
 fn is_fail_safe(e: Endpoint) -> bool
     ensures { λ r. ⌜ r ≡ isFailSafe e ⌝ }
@@ -43,7 +44,7 @@ pub fn show(e: Endpoint, out: &mut [u8]) -> Shown
     ensures { λ r. ⌜ ShowSays e (now (out .entry)) (now (out .exit)) r ⌝ }
 {
     let safe = is_fail_safe(e);
-    if out.len() < 248 {
+    if out.len() < LONGEST_FRAME {
         return Shown {
             count: 0,
             failsafe: safe,

@@ -1,19 +1,18 @@
 -- What a user's call that is done leaves.
-use mathlib.Core.Bool.{Bool, false, cond}
+use mathlib.Core.Bool.{false, cond}
 use Prim.Native.Nat.{ℕ, _+_, _%_}
-use lib.Dec.{leb}
 use Rattle.frame.specs.declared.Command.{Command}
 use Rattle.frame.specs.declared.Command.the-variants as K
 use Rattle.frame.specs.Control.{is}
 use Rattle.endpoint.specs.declared.Settings.{Settings}
 use Rattle.endpoint.specs.declared.State.the-variants.{Close, Starting}
-use Rattle.endpoint.specs.declared.Timestamp.the-variants.{Never, At}
-use Rattle.endpoint.specs.declared.Timestamps.{Timestamps}
+use Rattle.endpoint.specs.declared.Timestamp.the-variants.{Never}
 use Rattle.endpoint.specs.declared.Pending.the-variants.{Nothing, Asked}
 use Rattle.endpoint.specs.declared.Endpoint.{Endpoint}
-use Rattle.endpoint.specs.Table.{requestOf}
+use Rattle.endpoint.specs.Due.{requestDue}
 use Rattle.endpoint.specs.Time.{noValue, endedOf, timeOf}
-use Rattle.endpoint.specs.Updates.{endpointOf, inState, timedFrom, withTimestamps, withPending, withRequests, holding}
+use Rattle.endpoint.specs.Updates.{endpointOf, inState, timedFrom, withTimestamps, withSent, withPending, withRequests}
+use Rattle.endpoint.specs.Updates.{holding}
 
 -- a connection as loaded
 abbrev pub freshOf : Settings → Endpoint
@@ -29,18 +28,6 @@ startedOf e t = inState Starting (timedFrom t (withRequests 0 (withPending Nothi
 abbrev pub restartedOf : Endpoint → Endpoint
 restartedOf e = inState Close (holding noValue e)
 
--- the timestamp is remembered as the last sent
-abbrev pub stampedOf : Endpoint → ℕ → Timestamps
-stampedOf e stamp = record { sent = At stamp; accepted = e .timestamps .accepted }
-
--- a start writes at most 45 requests (document 02, note 3)
-abbrev pub requestLimit : ℕ
-requestLimit = 45
-
--- a further request would be one too many
-abbrev pub isExhausted : Endpoint → Bool
-isExhausted e = leb requestLimit (e .setup .requests)
-
 -- how many requests have been written once this command is, in 8 bits: S-Disconnect is not counted
 abbrev pub countedOf : Endpoint → Command → ℕ
 countedOf e k = cond (is k K.Disconnect) (e .setup .requests) ((e .setup .requests + 1) % 256)
@@ -48,15 +35,15 @@ countedOf e k = cond (is k K.Disconnect) (e .setup .requests) ((e .setup .reques
 -- send: a request
 abbrev pub requestedOf : Endpoint → ℕ → Endpoint
 requestedOf e t =
-    timedFrom t (withTimestamps (stampedOf e (timeOf e t))
-    (withRequests (countedOf e (requestOf (e .state))) (withPending (Asked (timeOf e t)) e)))
+    timedFrom t (withSent (timeOf e t)
+    (withRequests (countedOf e (requestDue e)) (withPending (Asked (timeOf e t)) e)))
 
 -- send: S-Refresh
 abbrev pub refreshSentOf : Endpoint → ℕ → Endpoint
-refreshSentOf e t = withTimestamps (stampedOf e (timeOf e t)) e
+refreshSentOf e t = withSent (timeOf e t) e
 
 -- stop; a master's has sent S-Disconnect
 abbrev pub stoppedOf : Endpoint → ℕ → Endpoint
 stoppedOf e t =
-    withTimestamps (cond (e .settings .slave) (e .timestamps) (stampedOf e (timeOf e t)))
+    withTimestamps (cond (e .settings .slave) (e .timestamps) (withSent (timeOf e t) e .timestamps))
     (withRequests (countedOf e K.Disconnect) (endedOf e))

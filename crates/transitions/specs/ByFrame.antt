@@ -1,32 +1,27 @@
 -- What a frame of this connection that is taken leaves.
-use mathlib.Core.Bool.{Bool, true, _&&_, cond}
+use mathlib.Core.Bool.{true, cond}
 use mathlib.Core.List.{List}
 use Prim.Native.Nat.{ℕ}
 use Rattle.frame.specs.declared.Command.{Command}
 use Rattle.frame.specs.declared.Command.the-variants as K
 use Rattle.frame.specs.declared.Fields.{Fields}
-use Rattle.frame.specs.Control.{is, mayBeBusy}
-use Rattle.endpoint.specs.declared.Timestamp.the-variants.{At}
-use Rattle.endpoint.specs.declared.Timestamps.{Timestamps}
+use Rattle.frame.specs.Control.{is}
 use Rattle.endpoint.specs.declared.Pending.the-variants.{Nothing}
 use Rattle.endpoint.specs.declared.Endpoint.{Endpoint}
-use Rattle.endpoint.specs.Table.{nextOf, stateTo, requestOf}
+use Rattle.endpoint.specs.Table.{nextOf, stateTo}
+use Rattle.endpoint.specs.Due.{requestDue, isBusy}
 use Rattle.endpoint.specs.Time.{offsetFrom, noValue, endedOf}
-use Rattle.endpoint.specs.Updates.{inState, timedFrom, withTimestamps, withSetup, withPending, holding}
-
--- the timestamp is remembered as the last accepted
-abbrev pub acceptedOf : Endpoint → ℕ → Timestamps
-acceptedOf e stamp = record { sent = e .timestamps .sent; accepted = At stamp }
+use Rattle.endpoint.specs.Updates.{inState, timedFrom, withAccepted, withPending, withMeasured, withOffset, holding}
 
 -- ---- S-Refresh, at either end
 abbrev pub refreshedOf : Endpoint → ℕ → ℕ → List ℕ → Endpoint
 refreshedOf e t stamp bytes =
-    timedFrom t (withTimestamps (acceptedOf e stamp) (holding (record { taken = true; bytes = bytes }) e))
+    timedFrom t (withAccepted stamp (holding (record { taken = true; bytes = bytes }) e))
 
 -- ---- a request at a slave
 -- ended, and the frame's timestamp counts as accepted
 abbrev pub endedBy : Endpoint → ℕ → Endpoint
-endedBy e stamp = withTimestamps (acceptedOf e stamp) (endedOf e)
+endedBy e stamp = withAccepted stamp (endedOf e)
 
 -- s2, or m2, is the clock at S-RefreshReady's reply
 abbrev pub measuredBy : Command → ℕ → ℕ → ℕ
@@ -41,17 +36,12 @@ offsetBy e f =
 abbrev pub advancedOf : Endpoint → ℕ → Fields → Endpoint
 advancedOf e t f =
     inState (stateTo (nextOf (f .command) (e .state)) (e .state))
-    (timedFrom t (withTimestamps (acceptedOf e (f .timestamp))
-    (withSetup (e .setup .pending) (measuredBy (f .command) t (e .setup .measured)) (offsetBy e f) (e .setup .requests)
-    (holding noValue e))))
+    (timedFrom t (withAccepted (f .timestamp)
+    (withMeasured (measuredBy (f .command) t (e .setup .measured)) (withOffset (offsetBy e f) (holding noValue e)))))
 
--- a station that is not ready answers S-InitConfirmNetPrm, S-InitVerifyStnPrm and S-RefreshReady with Busy 1
-abbrev pub isBusy : Endpoint → Command → Bool
-isBusy e k = e .station .notready && mayBeBusy k
-
--- its state stays, s2 too; the timestamp counts as accepted, and the timer runs from the reply (001: ST26, ST30, ST33)
+-- a Busy reply: its state stays, s2 too; the timestamp counts as accepted, and the timer runs from the reply (001: ST26, ST30, ST33)
 abbrev pub deferredOf : Endpoint → ℕ → Fields → Endpoint
-deferredOf e t f = timedFrom t (withTimestamps (acceptedOf e (f .timestamp)) e)
+deferredOf e t f = timedFrom t (withAccepted (f .timestamp) e)
 
 -- what a request that is done leaves once it has its reply
 abbrev pub answeredOf : Endpoint → ℕ → Fields → Endpoint
@@ -65,9 +55,9 @@ takenOf e t f = cond (is (f .command) K.Disconnect) (endedBy e (f .timestamp)) (
 -- the next state
 abbrev pub confirmedOf : Endpoint → ℕ → Endpoint
 confirmedOf e t =
-    inState (stateTo (nextOf (requestOf (e .state)) (e .state)) (e .state))
-    (timedFrom t (withSetup Nothing (measuredBy (requestOf (e .state)) t (e .setup .measured)) (e .setup .offset)
-    (e .setup .requests) (holding noValue e)))
+    inState (stateTo (nextOf (requestDue e) (e .state)) (e .state))
+    (timedFrom t (withPending Nothing
+    (withMeasured (measuredBy (requestDue e) t (e .setup .measured)) (holding noValue e))))
 
 -- Busy: the request is due again, with a new timestamp; the timer starts afresh, the state and m2 stay (001: MT30 to
 -- MT32)

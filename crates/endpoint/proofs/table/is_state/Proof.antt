@@ -5,4 +5,4 @@ use Rattle.endpoint.proofs.table.is_state.Tie as tie
 pub is-state-spec : {M : Type 1} → statement M
 is-state-spec =
     tie.close
-    (tie.spec (λ c κs. tt) (λ c κs. tt) (λ c. rw (c .before .state-number .ensures .0, c .state-number2 .ensures .0)))
+    (tie.spec (λ c κs. tt) (λ c κs. tt) (λ c. rw (c .before .row .ensures .0, c .row2 .ensures .0)))

@@ -25,7 +25,7 @@ table =
 returns : tie.Need-returns
 returns c =
     let a = c .before .before .before .args in
-    rw (c .before .before .state-number .ensures .0, c .before .column .ensures .0)
+    rw (c .before .before .row .ensures .0, c .before .column .ensures .0)
     (by-rows table (To Close)
     (refl, refl, refl, refl, refl, refl, refl)
     (refl, refl, refl, refl, refl, refl, refl)

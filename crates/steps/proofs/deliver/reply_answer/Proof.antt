@@ -5,18 +5,21 @@ use Rattle.steps.proofs.deliver.reply_answer.Tie as tie
 
 returns : tie.Need-returns
 returns c =
-    let q = c .before .before .before in
-    let l = q .before .before in
-    let a = l .before .before in
+    let x = c .before .before .before .before .before in
+    let d = x .before in
+    let k = d .before .before in
+    let p = k .before .before in
     rw (
       c .first-of .ensures,
-      q .equals-data .ensures,
-      q .before .answers-to .ensures,
-      l .data-length .ensures,
-      l .before .is .ensures,
-      a .is-asked .ensures,
-      a .before .is-setup .ensures,
-      a .before .before .request-of .ensures,
+      c .before .setup-faults .ensures,
+      x .is-data .ensures,
+      d .due-data .ensures .holds,
+      d .due-data .ensures .counted,
+      d .before .answers-to .ensures,
+      k .is .ensures,
+      k .before .request-due .ensures,
+      p .is-pending .ensures,
+      p .before .is-setup .ensures,
     )
 
 pub reply-answer-spec : {M : Type 1} → statement M
@@ -29,6 +32,7 @@ reply-answer-spec =
     (λ c κs. search needs)
     (λ c κs. search needs)
     (λ c κs. search needs)
+    (λ c κs. c .due-data .ensures .fits)
     (λ c κs. search needs)
     (λ c κs. search needs)
     returns)

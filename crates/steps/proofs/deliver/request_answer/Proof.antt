@@ -5,16 +5,19 @@ use Rattle.steps.proofs.deliver.request_answer.Tie as tie
 
 returns : tie.Need-returns
 returns c =
-    let d = c .before .before in
-    let l = d .before .before in
+    let x = c .before .before .before in
+    let d = x .before in
+    let i = d .before .before in
     rw (
       c .first-of .ensures,
-      c .before .equals-data .ensures,
-      d .is .ensures,
-      d .before .is-above .ensures,
-      l .data-length .ensures,
-      l .before .is-no .ensures,
-      l .before .before .next-state .ensures,
+      c .before .setup-faults .ensures,
+      x .is-data .ensures,
+      d .setup-data .ensures .holds,
+      d .setup-data .ensures .counted,
+      d .before .is .ensures,
+      i .is-above .ensures,
+      i .before .is-no .ensures,
+      i .before .before .next-state .ensures,
     )
 
 pub request-answer-spec : {M : Type 1} → statement M
@@ -26,6 +29,7 @@ request-answer-spec =
     (λ c κs. search needs)
     (λ c κs. search needs)
     (λ c κs. search needs)
+    (λ c κs. c .setup-data .ensures .fits)
     (λ c κs. search needs)
     (λ c κs. search needs)
     returns)

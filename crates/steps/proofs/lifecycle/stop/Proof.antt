@@ -37,18 +37,19 @@ returns-3 c =
     quiet (a .out .now) (a .e) (stopOf (a .e) (a .clock)) (s .before .if1 .left) Done (stoppedOf (a .e) (a .clock)) q
     (rw (← c .before .stopped .ensures) (c .stepped3 .ensures))
 
-write-setup-requires : tie.Need-write-setup-requires
-write-setup-requires c κs =
+write-data-requires : tie.Need-write-data-requires
+write-data-requires c κs =
     let f = c .before in
-    let i = f .before .before .before .before .before .before in
+    let d = f .before .setup-data .ensures in
+    let i = f .before .before .before .before .before .before .before in
     let a = i .before .before .args in
-    (i .if1 .left, rw (f .disconnect-fields .ensures) (disconnect-writable (a .e) (a .clock)))
+    (i .if1 .left, d .fits, rw (f .disconnect-fields .ensures, d .holds) (disconnect-writable (a .e) (a .clock)))
 
 returns-4 : tie.Need-returns-4
 returns-4 c =
     let w = c .before .before .before .before in
     let f = w .before .before in
-    let t = f .before .before in
+    let t = f .before .before .before in
     let d = t .before .before in
     let s = d .before in
     let a = s .before .before .before .args in
@@ -58,7 +59,7 @@ returns-4 c =
     rw (← s .stop-answer .ensures, ← d .is-dropped .ensures, t .before .if2 .left, t .if3 .left) in
     loud (a .out .now) (a .e) (stopOf (a .e) (a .clock)) (s .before .if1 .left) Done (stoppedOf (a .e) (a .clock))
     (disconnectFields (a .e) (a .clock)) (setupData (a .e .settings) K.Disconnect) q
-    (rw (f .disconnect-fields .ensures) at (w .write-setup .ensures))
+    (rw (f .disconnect-fields .ensures, f .before .setup-data .ensures .holds) at (w .write-data .ensures))
     (rw (← c .before .stopped2 .ensures) (c .stepped4 .ensures))
 
 pub stop-spec : {M : Type 1} → statement M
@@ -75,7 +76,8 @@ stop-spec =
     (λ c κs. search needs)
     returns-3
     (λ c κs. search needs)
-    write-setup-requires
+    (λ c κs. search needs)
+    write-data-requires
     (λ c κs. search needs)
     (λ c κs. search needs)
     (λ c. search needs)

@@ -5,19 +5,22 @@ use Rattle.steps.proofs.lifecycle.stop_answer.Tie as tie
 
 returns : tie.Need-returns
 returns c =
-    let s = c .before .before .before in
+    let s = c .before .before in
+    let t = s .before .before in
     rw (
       c .first-of .ensures,
-      c .before .is-above .ensures,
-      s .time-of .ensures,
-      s .before .is-state2 .ensures,
-      s .before .before .is-state .ensures,
+      c .before .call-faults .ensures,
+      s .is-above .ensures,
+      t .time-of .ensures,
+      t .before .is-state2 .ensures,
+      t .before .before .is-state .ensures,
     )
 
 pub stop-answer-spec : {M : Type 1} → statement M
 stop-answer-spec =
     tie.close
     (tie.spec
+    (λ c κs. search needs)
     (λ c κs. search needs)
     (λ c κs. search needs)
     (λ c κs. search needs)

@@ -8,9 +8,8 @@ use Rattle.steps.proofs.Outcomes.{short, quiet, loud}
 use Rattle.steps.proofs.Whole.{request-writable, refresh-writable, send-width-length}
 use Rattle.transitions.specs.ByCall.{requestedOf, refreshSentOf}
 use Rattle.steps.specs.Calls.{outcome, sendOf}
-use Rattle.steps.specs.Frames.{nothing, written, setupData, sendWidth, requestFields, refreshFields}
+use Rattle.steps.specs.Frames.{nothing, written, dueData, sendWidth, requestFields, refreshFields}
 use Rattle.endpoint.specs.Answers.{leftBy}
-use Rattle.endpoint.specs.Table.{requestOf}
 use Rattle.endpoint.specs.Time.{endedOf}
 use Rattle.endpoint.specs.declared.Answer.the-variants.{Done}
 use Rattle.steps.proofs.send.send.Statement.{statement}
@@ -40,14 +39,14 @@ write-whole-requires : tie.Need-write-whole-requires
 write-whole-requires c κs =
     let f = c .before in
     let i = f .before .before in
-    let d = i .before .before .before in
+    let d = i .before .before in
     let s = d .before in
     let a = s .before .before .before .before .args in
     let n = length (a .value .now) in
     let w : n ≡ sendWidth (a .e .settings) =
     sent-width (a .e) (a .clock) n (sym (i .is-state .ensures) ∙ f .before .if3 .taken)
     (sym (s .send-answer .ensures) ∙ is-done (s .send-answer .result)
-    (sym (d .is-done .ensures) ∙ not-false (d .is-done .result) (i .before .before .if2 .left))) in (
+    (sym (d .is-done .ensures) ∙ not-false (d .is-done .result) (i .before .if2 .left))) in (
       s .before .if1 .left,
       rw (f .refresh-fields .ensures)
           (refresh-writable (a .e) (a .clock) n (rw w (send-width-length (a .e .settings)))),
@@ -58,7 +57,7 @@ returns-3 c =
     let w = c .before .before .before .before in
     let f = w .before .before in
     let i = f .before .before in
-    let d = i .before .before .before in
+    let d = i .before .before in
     let s = d .before in
     let a = s .before .before .before .before .args in
     let o = sendOf (a .e) (a .clock) (a .value .now) in
@@ -67,7 +66,7 @@ returns-3 c =
     rw (
       ← s .send-answer .ensures,
       ← d .is-done .ensures,
-      not-false (d .is-done .result) (i .before .before .if2 .left),
+      not-false (d .is-done .result) (i .before .if2 .left),
       ← i .is-state .ensures,
       f .before .if3 .taken,
     ) in
@@ -75,13 +74,15 @@ returns-3 c =
     (rw (f .refresh-fields .ensures) at (w .write-whole .ensures))
     (rw (← c .before .refresh-sent .ensures) (c .stepped3 .ensures))
 
-write-setup-requires : tie.Need-write-setup-requires
-write-setup-requires c κs =
+write-data-requires : tie.Need-write-data-requires
+write-data-requires c κs =
+    let d = c .before .due-data .ensures in
     let f = c .before .before in
-    let s = f .before .before .before .before .before .before in
+    let s = f .before .before .before .before .before in
     let a = s .before .before .before .before .args in (
       s .before .if1 .left,
-      rw (f .request-fields .ensures, c .before .request-of .ensures) (request-writable (a .e) (a .clock)),
+      d .fits,
+      rw (f .request-fields .ensures, d .holds) (request-writable (a .e) (a .clock)),
     )
 
 returns-4 : tie.Need-returns-4
@@ -90,22 +91,22 @@ returns-4 c =
     let k = w .before .before in
     let f = k .before in
     let i = f .before .before in
-    let d = i .before .before .before in
+    let d = i .before .before in
     let s = d .before in
     let a = s .before .before .before .before .args in
     let o = sendOf (a .e) (a .clock) (a .value .now) in
     let x = requestedOf (a .e) (a .clock) in
-    let b = setupData (a .e .settings) (requestOf (a .e .state)) in
+    let b = dueData (a .e) in
     let q : o ≡ outcome Done x (written (requestFields (a .e) (a .clock)) b) =
     rw (
       ← s .send-answer .ensures,
       ← d .is-done .ensures,
-      not-false (d .is-done .result) (i .before .before .if2 .left),
+      not-false (d .is-done .result) (i .before .if2 .left),
       ← i .is-state .ensures,
       f .before .if3 .left,
     ) in
     loud (a .out .now) (a .e) o (s .before .if1 .left) Done x (requestFields (a .e) (a .clock)) b q
-    (rw (f .request-fields .ensures, k .request-of .ensures) at (w .write-setup .ensures))
+    (rw (f .request-fields .ensures, k .due-data .ensures .holds) at (w .write-data .ensures))
     (rw (← c .before .requested .ensures) (c .stepped4 .ensures))
 
 pub send-spec : {M : Type 1} → statement M
@@ -129,7 +130,7 @@ send-spec =
     returns-3
     (λ c κs. search needs)
     (λ c κs. search needs)
-    write-setup-requires
+    write-data-requires
     (λ c κs. search needs)
     (λ c κs. search needs)
     (λ c. search needs)

@@ -6,14 +6,15 @@ use Rattle.steps.proofs.send.send_answer.Tie as tie
 returns : tie.Need-returns
 returns c =
     let s = c .before .before in
-    let x = s .before .before in
-    let m = x .before in
+    let w = s .before .before in
+    let m = w .before .before in
     rw (
       c .first-of .ensures,
-      c .before .is-above .ensures,
-      s .time-of .ensures,
-      s .before .send-width .ensures,
-      x .is-exhausted .ensures,
+      c .before .call-faults .ensures,
+      s .is-above .ensures,
+      s .before .time-of .ensures,
+      w .send-width .ensures,
+      w .before .is-exhausted .ensures,
       m .may-request .ensures,
       m .before .is-state .ensures,
     )
@@ -22,6 +23,7 @@ pub send-answer-spec : {M : Type 1} → statement M
 send-answer-spec =
     tie.close
     (tie.spec
+    (λ c κs. search needs)
     (λ c κs. search needs)
     (λ c κs. search needs)
     (λ c κs. search needs)

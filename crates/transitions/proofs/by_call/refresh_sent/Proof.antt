@@ -9,4 +9,4 @@ refresh-sent-spec =
     (tie.spec
     (λ c κs. search needs)
     (λ c κs. search needs)
-    (λ c. rw (c .stamped .ensures, c .before .time-of .ensures)))
+    (λ c. rw (c .with-sent .ensures, c .before .time-of .ensures)))

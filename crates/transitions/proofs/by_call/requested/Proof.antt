@@ -5,13 +5,21 @@ use Rattle.transitions.proofs.by_call.requested.Tie as tie
 
 returns : tie.Need-returns
 returns c =
-    let s = c .before .before in
-    rw (c .counted .ensures, c .before .request-of .ensures, s .stamped .ensures, s .before .time-of .ensures)
+    let p = c .before .before in
+    let k = p .before in
+    rw (
+      c .before .with-sent .ensures,
+      p .with-pending .ensures,
+      k .counted .ensures,
+      k .before .request-due .ensures,
+      k .before .before .time-of .ensures,
+    )
 
 pub requested-spec : {M : Type 1} → statement M
 requested-spec =
     tie.close
     (tie.spec
+    (λ c κs. search needs)
     (λ c κs. search needs)
     (λ c κs. search needs)
     (λ c κs. search needs)

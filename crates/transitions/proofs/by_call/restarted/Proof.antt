@@ -8,4 +8,5 @@ restarted-spec =
     tie.close
     (tie.spec
     (λ c κs. search needs)
-    (λ c. rw (c .no-value .ensures)))
+    (λ c κs. search needs)
+    (λ c. rw (c .no-value .ensures, c .before .in-state .ensures)))

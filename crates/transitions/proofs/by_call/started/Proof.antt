@@ -8,4 +8,6 @@ started-spec =
     tie.close
     (tie.spec
     (λ c κs. search needs)
-    (λ c. rw (c .no-value .ensures)))
+    (λ c κs. search needs)
+    (λ c κs. search needs)
+    (λ c. let i = c .before .before in rw (c .no-value .ensures, i .in-state .ensures, i .before .with-pending .ensures)))

@@ -5,21 +5,24 @@ use Rattle.transitions.proofs.by_frame.advanced.Tie as tie
 
 returns : tie.Need-returns
 returns c =
-    let m = c .before .before in
-    let s = m .before .before in
+    let i = c .before .before .before in
+    let s = i .before .before in
+    let o = s .before .before in
     rw (
       c .no-value .ensures,
-      c .before .offset-by .ensures,
-      m .measured-by .ensures,
-      m .before .accepted .ensures,
+      i .in-state .ensures,
+      i .before .with-accepted .ensures,
       s .state-to .ensures,
       s .before .next-state .ensures,
+      o .offset-by .ensures,
+      o .before .measured-by .ensures,
     )
 
 pub advanced-spec : {M : Type 1} → statement M
 advanced-spec =
     tie.close
     (tie.spec
+    (λ c κs. search needs)
     (λ c κs. search needs)
     (λ c κs. search needs)
     (λ c κs. search needs)

@@ -8,4 +8,4 @@ deferred-spec =
     tie.close
     (tie.spec
     (λ c κs. search needs)
-    (λ c. rw (c .accepted .ensures)))
+    (λ c. rw (c .with-accepted .ensures)))

@@ -9,4 +9,4 @@ ended-by-spec =
     (tie.spec
     (λ c κs. search needs)
     (λ c κs. search needs)
-    (λ c. rw (c .no-value .ensures, c .before .accepted .ensures)))
+    (λ c. rw (c .with-accepted .ensures, c .before .ended .ensures)))

@@ -1,0 +1,25 @@
+-- `steps::frames::write_data` meets its contract: the first bytes of the array are the data.
+use borrow.Author.Needs.{needs}
+use lib.Seq.{length-take-le}
+use mathlib.Core.Path.{sym}
+use Rattle.steps.proofs.frames.write_data.Statement.{statement}
+use Rattle.steps.proofs.frames.write_data.Tie as tie
+
+slice-aggregate-write-whole : tie.Need-slice-aggregate-write-whole
+slice-aggregate-write-whole c =
+    let s = c .before .before .before in
+    let d = s .args .carried in
+    sym (length-take-le (d .length) (d .bytes) (s .pre .1))
+
+write-whole-requires : tie.Need-write-whole-requires
+write-whole-requires c κs = let p = c .before .before .before .before .pre in (p .0, p .2)
+
+pub write-data-spec : {M : Type 1} → statement M
+write-data-spec =
+    tie.close
+    (tie.spec
+    (λ c. c .before .before .pre .1)
+    slice-aggregate-write-whole
+    write-whole-requires
+    (λ c. search needs)
+    (λ c. c .before .before .write-whole .ensures))

@@ -1,0 +1,223 @@
+// The frames that an endpoint writes: the data of setup requests, the width of values, and the fields of each frame.
+ghost use mathlib.Core.Path.{_≡_};
+ghost use mathlib.Core.List.{_++_};
+ghost use Prim.Native.Nat.{_≤_};
+ghost use lib.ListN.{length};
+ghost use Rattle.frame.specs.Words.{wordBytes};
+ghost use Rattle.steps.specs.Frames.{setupData, dueData, widthOf, sendWidth, showWidth, sentFields, baselineOf};
+ghost use Rattle.steps.specs.Frames.{requestFields, refreshFields, disconnectFields, replyFields};
+ghost use Rattle.steps.specs.Says.{bytesIn, DataSays, WholeSays};
+ghost use Rattle.frame.specs.Writing.{isWritable};
+ghost use mathlib.Core.Bool.{true};
+use endpoint::Endpoint;
+use endpoint::Settings;
+use endpoint::due::request_due;
+use endpoint::time::passed;
+use endpoint::time::time_of;
+use frame::Command;
+use frame::Fields;
+use frame::Subconnection;
+use frame::TIMESTAMP_MODULUS;
+
+// The data of a setup request: the first length bytes.
+pub struct SetupData {
+    pub bytes: [u8; 16],
+    pub length: usize,
+}
+
+fn four_words(a: u32, b: u32, c: u32, d: u32) -> [u8; 16]
+    ensures { λ r. ⌜ r ≡ wordBytes a ++ (wordBytes b ++ (wordBytes c ++ wordBytes d)) ⌝ }
+{
+    [
+        (a / 16777216) as u8,
+        (a / 65536 % 256) as u8,
+        (a / 256 % 256) as u8,
+        (a % 256) as u8,
+        (b / 16777216) as u8,
+        (b / 65536 % 256) as u8,
+        (b / 256 % 256) as u8,
+        (b % 256) as u8,
+        (c / 16777216) as u8,
+        (c / 65536 % 256) as u8,
+        (c / 256 % 256) as u8,
+        (c % 256) as u8,
+        (d / 16777216) as u8,
+        (d / 65536 % 256) as u8,
+        (d / 256 % 256) as u8,
+        (d % 256) as u8,
+    ]
+}
+
+fn one_word(v: u32) -> SetupData
+    ensures { λ r. ⌜ (r .bytes ≡ wordBytes v ++ (wordBytes 0 ++ (wordBytes 0 ++ wordBytes 0))) × (r .length ≡ 4) ⌝ }
+{
+    SetupData {
+        bytes: four_words(v, 0, 0, 0),
+        length: 4,
+    }
+}
+
+// The words that a setup request carries.
+pub(crate) fn setup_data(s: Settings, k: Command) -> SetupData
+    ensures { λ r. ⌜ DataSays (setupData s k) r ⌝ }
+{
+    match k {
+        Command::Connect => one_word(1),
+        Command::ConfirmNetwork => SetupData {
+            bytes: four_words(
+                s.interval,
+                s.roundtrip,
+                s.age,
+                32 * (s.masterwords as u32) + (s.slavewords as u32),
+            ),
+            length: 16,
+        },
+        Command::VerifyStation => one_word(s.station),
+        Command::RefreshReady => one_word(0),
+        Command::RefreshGo => one_word(0),
+        Command::Refresh => one_word(0),
+        Command::Disconnect => one_word(0),
+    }
+}
+
+// The words that the request due carries.
+pub(crate) fn due_data(e: Endpoint) -> SetupData
+    ensures { λ r. ⌜ DataSays (dueData e) r ⌝ }
+{
+    let settings = e.settings;
+    setup_data(settings, request_due(e))
+}
+
+// Bytes of a value of so many words.
+fn width(words: u8) -> usize
+    ensures { λ r. ⌜ r ≡ widthOf words ⌝ }
+{
+    if (1 <= words) & (words <= 25) {
+        4 * (words as usize)
+    } else {
+        4
+    }
+}
+
+pub(crate) fn send_width(s: Settings) -> usize
+    ensures { λ r. ⌜ r ≡ sendWidth s ⌝ }
+{
+    if s.slave {
+        return width(s.slavewords);
+    }
+    width(s.masterwords)
+}
+
+pub(crate) fn show_width(s: Settings) -> usize
+    ensures { λ r. ⌜ r ≡ showWidth s ⌝ }
+{
+    if s.slave {
+        return width(s.masterwords);
+    }
+    width(s.slavewords)
+}
+
+// A frame that is no reply; application tells the direction.
+fn sent_fields(
+    command: Command,
+    application: bool,
+    connection: u32,
+    timestamp: u64,
+    baseline: u16,
+) -> Fields
+    ensures { λ r. ⌜ r ≡ sentFields command application connection timestamp baseline ⌝ }
+{
+    Fields {
+        command: command,
+        ack: false,
+        busy: false,
+        error: false,
+        sequence: false,
+        application: application,
+        subconnection: Subconnection::Absent,
+        connection: connection,
+        timestamp: timestamp,
+        baseline: baseline,
+    }
+}
+
+// OBL of a request.
+fn baseline_of(k: Command, clock: u64, measured: u64) -> u16
+    ensures { λ r. ⌜ r ≡ baselineOf k clock measured ⌝ }
+{
+    if frame::control::is(k, Command::RefreshGo) {
+        return (passed(clock, measured) % 65536) as u16;
+    }
+    0
+}
+
+pub(crate) fn request_fields(e: Endpoint, clock: u64) -> Fields
+    ensures { λ r. ⌜ r ≡ requestFields e clock ⌝ }
+{
+    let k = request_due(e);
+    let stamp = time_of(e, clock);
+    sent_fields(
+        k,
+        false,
+        e.settings.connection,
+        stamp,
+        baseline_of(k, clock, e.setup.measured),
+    )
+}
+
+pub(crate) fn refresh_fields(e: Endpoint, clock: u64) -> Fields
+    ensures { λ r. ⌜ r ≡ refreshFields e clock ⌝ }
+{
+    let stamp = time_of(e, clock);
+    sent_fields(
+        Command::Refresh,
+        e.settings.slave,
+        e.settings.connection,
+        stamp,
+        0,
+    )
+}
+
+pub(crate) fn disconnect_fields(e: Endpoint, clock: u64) -> Fields
+    ensures { λ r. ⌜ r ≡ disconnectFields e clock ⌝ }
+{
+    let stamp = time_of(e, clock);
+    sent_fields(Command::Disconnect, false, e.settings.connection, stamp, 0)
+}
+
+pub(crate) fn reply_fields(e: Endpoint, f: Fields, busy: bool, error: bool) -> Fields
+    ensures { λ r. ⌜ r ≡ replyFields e f busy error ⌝ }
+{
+    let k = f.command;
+    Fields {
+        command: k,
+        ack: true,
+        busy: busy,
+        error: error,
+        sequence: false,
+        application: true,
+        subconnection: Subconnection::Absent,
+        connection: e.settings.connection,
+        timestamp: f.timestamp % TIMESTAMP_MODULUS,
+        baseline: 0,
+    }
+}
+
+// Writes a frame that can be written to an output that has room for every frame.
+pub(crate) fn write_whole(fields: Fields, body: &[u8], out: &mut [u8]) -> usize
+    requires { ⌜ (248 ≤ length (now out)) × (isWritable fields (length (now body)) ≡ true) ⌝ }
+    ensures { λ r. ⌜ WholeSays fields (now (body .entry)) (now (out .entry)) (now (out .exit)) r ⌝ }
+{
+    frame::write::write_frame(fields, body, out)
+}
+
+// Writes a frame with the data of a setup request.
+pub(crate) fn write_data(fields: Fields, carried: SetupData, out: &mut [u8]) -> usize
+    requires { ⌜ (248 ≤ length (now out)) × (carried .length ≤ length (carried .bytes))
+        × (isWritable fields (length (bytesIn carried)) ≡ true) ⌝ }
+    ensures { λ r. ⌜ WholeSays fields (bytesIn carried) (now (out .entry)) (now (out .exit)) r ⌝ }
+{
+    let bytes = carried.bytes;
+    let n = carried.length;
+    write_whole(fields, &bytes[..n], out)
+}

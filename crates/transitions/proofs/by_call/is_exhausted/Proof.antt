@@ -1,7 +1,0 @@
--- `transitions::by_call::is_exhausted` meets its contract.
-use mathlib.Core.Path.{refl}
-use Rattle.transitions.proofs.by_call.is_exhausted.Statement.{statement}
-use Rattle.transitions.proofs.by_call.is_exhausted.Tie as tie
-
-pub is-exhausted-spec : {M : Type 1} → statement M
-is-exhausted-spec = tie.close (tie.spec (λ c. refl))
