@@ -16,7 +16,7 @@ use Rattle.steps.proofs.Dispatch.{cond-true, cond-false}
 use Rattle.steps.proofs.Keeps.{bcase}
 use Rattle.steps.specs.declared.Stepped.{Stepped}
 use Rattle.steps.specs.declared.Shown.{Shown}
-use Rattle.steps.specs.Frames.{nothing, bytesOf}
+use Rattle.steps.specs.Frames.{Written, nothing, bytesOf}
 use Rattle.steps.specs.Calls.{Outcome, shownOf}
 use Rattle.steps.specs.Says.{withRoom, plainStep, StepSays, shownTo, ShowSays}
 use Rattle.device.specs.declared.Device.{Device}
@@ -37,10 +37,10 @@ roomy last t short a h =
     (λ s. s)
 
 -- nothing is written
-pub silent : (r : Result) (out : List ℕ) (called : Called) → r .writes ≡ [] → called ≡ calledOf r
+pub silent : (r : Result) (out : List ℕ) (called : Called) → r .writes ≡ nothing → called ≡ calledOf r
     → CallSays r out out called
 unfolding over
-silent r out called q h = record { told = h; output = ap (λ (s : List ℕ). over s out) (sym q) }
+silent r out called q h = record { told = h; output = ap (λ (w : Written). over (bytesOf w) out) (sym q) }
 
 -- ---- refused before the connection's own step
 module _ (t n : ℕ) (d : Device) (r : Result) (a b : Answer) (q : b ≡ a) where
@@ -69,7 +69,6 @@ pub acted-plain : (act : Endpoint → Outcome) (d : Device) (t n : ℕ) (short :
     → step ≡ plainStep (act (endpointAt (d .endpoints) n))
     → called ≡ stepCalled step t n d
     → called ≡ calledOf (onEntry act d t short n)
-unfolding bytesOf
 acted-plain act d t n short b step called q h w s r =
     let o = act (endpointAt (d .endpoints) n) in
     r ∙ ap (λ (x : Stepped). stepCalled x t n d) s
@@ -117,7 +116,7 @@ acted-says act d t n out out′ b step called q h s r =
         device = placed n ((s .left ∙ ap (λ (x : Outcome). x .endpoint) w) i) (clockStep t d);
       }) ∙ ap calledOf (sym a);
       output = s .output ∙ ap (λ (x : Outcome). over (bytesOf (x .writes)) out) w
-          ∙ ap (λ (x : Result). over (x .writes) out) (sym a);
+          ∙ ap (λ (x : Result). over (bytesOf (x .writes)) out) (sym a);
     }
 
 -- a show
@@ -140,5 +139,5 @@ shown-says d t n out out′ b s called q h v r =
         failsafe = v .marked i;
         device = clockStep t d;
       }) ∙ ap calledOf (sym a);
-      output = v .output ∙ ap (λ (x : List ℕ). over x out) w ∙ ap (λ (x : Result). over (x .writes) out) (sym a);
+      output = v .output ∙ ap (λ (x : List ℕ). over x out) w ∙ ap (λ (x : Result). over (bytesOf (x .writes)) out) (sym a);
     }

@@ -1,7 +1,7 @@
 -- What each call on a device comes to: its answer, its entry, what it writes, and the device it leaves.
 use mathlib.Core.Path.{_≡_}
 use mathlib.Core.Bool.{Bool, false, not, cond}
-use mathlib.Core.List.{List, []}
+use mathlib.Core.List.{List}
 use Prim.Native.Nat.{ℕ}
 use lib.Dec.{eqb, ltb}
 use lib.ListN.{length, set}
@@ -22,7 +22,8 @@ use Rattle.endpoint.specs.declared.Answer.the-variants.{Done, Dropped, Ended}
 use Rattle.endpoint.specs.Answers.{isDone, isEnded}
 use Rattle.endpoint.specs.Time.{isExpired, afterTick}
 use Rattle.steps.specs.declared.Stepped.{Stepped}
-use Rattle.steps.specs.Frames.{bytesOf}
+use Rattle.steps.specs.Frames.{Written, nothing, bytesOf}
+use Rattle.steps.specs.Frames as W
 use Rattle.steps.specs.Calls.{Outcome, startOf, sendOf, stopOf, restartOf, setNotReadyOf, isFailSafe, shownOf}
 use Rattle.steps.specs.Deliveries.{deliverOf}
 use Rattle.device.specs.declared.Device.{Device}
@@ -35,11 +36,11 @@ use Rattle.device.specs.Clock.{isReading, clockStep, afterClock}
 pub record Result : Type 0 where
   pub answer : Answer
   pub entry : Entry
-  pub writes : List ℕ
+  pub writes : Written
   pub failsafe : Bool
   pub device : Device
 
-abbrev pub result : Answer → Entry → List ℕ → Bool → Device → Result
+abbrev pub result : Answer → Entry → Written → Bool → Device → Result
 result answer entry writes failsafe device =
     record { answer = answer; entry = entry; writes = writes; failsafe = failsafe; device = device }
 
@@ -62,7 +63,7 @@ refusedEntry a n = cond (isEnded a) (At n) Absent
 
 -- refused before the connection's own step
 abbrev pub refusedOf : Answer → ℕ → ℕ → Device → Result
-refusedOf a t n d = result a (refusedEntry a n) [] false (afterClock t d)
+refusedOf a t n d = result a (refusedEntry a n) nothing false (afterClock t d)
 
 -- what a call comes to that goes on where nothing of this refuses it
 abbrev pub unlessRefused : Answer → ℕ → ℕ → Device → Result → Result
@@ -74,7 +75,7 @@ placed n e d = deviceOf (d .last) (d .count) (set (d .endpoints) n e)
 
 -- the connection's own step, put back into the table that the clock step left
 abbrev pub actedOf : Outcome → ℕ → ℕ → Device → Result
-actedOf o t n d = result (o .answer) (At n) (bytesOf (o .writes)) false (placed n (o .endpoint) (clockStep t d))
+actedOf o t n d = result (o .answer) (At n) (o .writes) false (placed n (o .endpoint) (clockStep t d))
 
 -- numbers 1, 2, 3 and 9, the first that applies; `short`: an output was lent and is under 248 bytes
 abbrev pub beforeEntry : Device → ℕ → Bool → ℕ → Answer
@@ -109,7 +110,7 @@ abbrev pub beforeShow : Device → ℕ → Bool → ℕ → Answer
 beforeShow d t short n = admit (d .last) t short (admitEntry (d .count) n Done)
 
 abbrev pub shownIn : Endpoint → ℕ → ℕ → Device → Result
-shownIn e t n d = result Done (At n) (shownOf e) (isFailSafe e) (clockStep t d)
+shownIn e t n d = result Done (At n) (W.value (shownOf e)) (isFailSafe e) (clockStep t d)
 
 abbrev pub showIn : Device → ℕ → ℕ → ℕ → Result
 showIn d t room n =
@@ -118,7 +119,7 @@ showIn d t room n =
 -- ---- deliver: a frame, or nothing; for a frame 4 to 7 by the reader, then 8, in the place of 3
 -- a cycle in which nothing arrived (document 02, note 1): the clock step; no connection's, so never 9
 abbrev pub emptyCycle : Device → ℕ → Bool → Result
-emptyCycle d t short = result (admit (d .last) t short Done) Absent [] false (afterClock t d)
+emptyCycle d t short = result (admit (d .last) t short Done) Absent nothing false (afterClock t d)
 
 abbrev pub reasonOf : Fault → Reason
 reasonOf F.Length = R.Length
@@ -145,7 +146,7 @@ called answer entry count failsafe device =
     record { answer = answer; entry = entry; count = count; failsafe = failsafe; device = device }
 
 abbrev pub calledOf : Result → Called
-calledOf r = called (r .answer) (r .entry) (length (r .writes)) (r .failsafe) (r .device)
+calledOf r = called (r .answer) (r .entry) (length (bytesOf (r .writes))) (r .failsafe) (r .device)
 
 -- a step on the connection at n, as the functions of `steps` give it
 abbrev pub stepCalled : Stepped → ℕ → ℕ → Device → Called
@@ -159,4 +160,4 @@ settledOf before step t n d = cond (isDone before) (stepCalled step t n d) (call
 -- a lent output: the written bytes stand over its front, the rest stays
 pub record CallSays (r : Result) (out out′ : List ℕ) (c : Called) : Type 0 where
   pub told : c ≡ calledOf r
-  pub output : out′ ≡ over (r .writes) out
+  pub output : out′ ≡ over (bytesOf (r .writes)) out

@@ -22,7 +22,8 @@ use Rattle.endpoint.specs.declared.Endpoint.{Endpoint}
 use Rattle.endpoint.specs.declared.Answer.{Answer}
 use Rattle.endpoint.specs.Answers.{isDone}
 use Rattle.endpoint.specs.Time.{isExpired, afterTick}
-use Rattle.steps.specs.Frames.{Written, nothing}
+use Rattle.steps.specs.Frames.{nothing}
+use Rattle.steps.specs.Frames as W
 use Rattle.steps.specs.Calls.{Outcome, isFailSafe, shownOf}
 use Rattle.steps.specs.Deliveries.{deliverOf}
 use Rattle.steps.specs.Steps as S
@@ -37,7 +38,7 @@ use Rattle.device.specs.Clock.{isReading, clockStep, afterClock}
 use Rattle.device.specs.Calls.{Result, result, refusedOf, onEntry, isShort, beforeShow, shownIn}
 use Rattle.link.specs.Runs as L
 use Rattle.devices.specs.Runs.{Call, act, send, deliver, show, callIn, isOf, isRefreshIn, isFrameOf, isRefreshOf}
-use Rattle.devices.specs.Runs.{frameBy, lastOf, mayDeliver, handsBytes, tookBy, isAt, showsValue, shownBy}
+use Rattle.devices.specs.Runs.{onBus, logged, lastOf, mayDeliver, handsBytes, tookBy, isAt, showsValue, shownBy}
 use Rattle.devices.proofs.Tables.{Like, like-tick, like-at, ticked-at, at, entry-like, entry-found}
 use Rattle.devices.proofs.Loaded.{Table}
 use Rattle.devices.proofs.Logs.{bytes-of, toLog, AllGood, no-more, last-of}
@@ -52,18 +53,19 @@ unfolding readingOf
 no-refresh cid [] z = refl
 no-refresh cid (b ∷ s) z = let q : suc (length s) ≡ 0 = eqb-true (suc (length s)) 0 z in absurd (omega arith)
 
--- a show changes the endpoint by the clock step only
-show-call : (e : Endpoint) (t : ℕ)
-    → (L.callOf e t S.show .endpoint ≡ afterTick e t) × (L.callOf e t S.show .writes ≡ nothing)
-show-call e t =
+-- a show changes the endpoint by the clock step only, and puts nothing on the bus
+show-call : (slave : Bool) (m : ℕ) (e : Endpoint) (t : ℕ)
+    → (L.callOf e t S.show .endpoint ≡ afterTick e t)
+    × (L.logged slave m S.show (L.callOf e t S.show .writes) ≡ [])
+show-call slave m e t =
     bcase (isExpired e t)
     (λ x. (
       ap (λ (o : Outcome). o .endpoint) (call-expired e t S.show x) ∙ sym (tick-expired e t x),
-      ap (λ (o : Outcome). o .writes) (call-expired e t S.show x),
+      ap (λ (o : Outcome). L.logged slave m S.show (o .writes)) (call-expired e t S.show x),
     ))
     (λ x. (
       ap (λ (o : Outcome). o .endpoint) (call-timely e t S.show x) ∙ sym (tick-timely e t x),
-      ap (λ (o : Outcome). o .writes) (call-timely e t S.show x),
+      ap (λ (o : Outcome). L.logged slave m S.show (o .writes)) (call-timely e t S.show x),
     ))
 
 flip : (b : Bool) (x : L.Show) → cond {A = List L.Show} (not b) (x ∷ []) [] ≡ cond b [] (x ∷ [])
@@ -83,7 +85,7 @@ module _ (cid : ℕ) (slave : Bool) (m : ℕ) (d₀ : Device) (n : ℕ) (T : Tab
 
     clocks : (call : Call)
         → callIn d t room call .device ≡ clockStep t d
-        → isFrameOf cid (frameBy call (callIn d t room call .writes)) ≡ false
+        → isFrameOf cid (onBus (callIn d t room call .writes)) ≡ false
         → showsValue cid d call (callIn d t room call) ≡ false
         → tookBy cid (toLog log) call (isDone (callIn d t room call .answer)) took ≡ took
         → Match call
@@ -104,7 +106,6 @@ module _ (cid : ℕ) (slave : Bool) (m : ℕ) (d₀ : Device) (n : ℕ) (T : Tab
       is = act-in d t room a k;
       bytes = tt;
       lent = refl;
-      frames = λ w. refl;
       no-show = λ r. refl;
       no-show-by = λ x. refl;
       took-none = refl;
@@ -118,7 +119,6 @@ module _ (cid : ℕ) (slave : Bool) (m : ℕ) (d₀ : Device) (n : ℕ) (T : Tab
       is = refl;
       bytes = bytes-of value h;
       lent = refl;
-      frames = λ w. refl;
       no-show = λ r. refl;
       no-show-by = λ x. refl;
       took-none = refl;
@@ -137,16 +137,16 @@ module _ (cid : ℕ) (slave : Bool) (m : ℕ) (d₀ : Device) (n : ℕ) (T : Tab
         let y = L.shown slave m (shownOf x) took (length log) in
         let q : callIn d t room (show n) ≡ shownIn x t n d =
         cond-true (isDone a) (shownIn x t n d) (refusedOf a t n d) h in
-        let c = show-call e t in
+        let c = show-call slave m e t in
         let v : showsValue cid d (show n) (shownIn x t n d) ≡ not (isFailSafe x) =
         ap (λ (b : Bool). b && (true && not (isFailSafe x)))
         (ap (λ (y : Entry). isAt y n) the-entry ∙ eq-eqb n n refl) in
         record {
           by = S.show;
           endpoint = ap (λ (r : Result). endpointAt (r .device .endpoints) n) q ∙ ticked-at d t n ∙ sym (c .0);
-          logs = not-logged cid slave m (show n) [] (empty cid)
-              ∙ sym (ap (λ (w : Written). toLog (L.logged slave m S.show w)) (c .1));
-          good = subst (λ (w : Written). AllGood cid (L.logged slave m S.show w)) (sym (c .1)) no-more;
+          logs = ap (λ (r : Result). logged cid slave m (show n) (r .writes)) q
+              ∙ not-logged cid slave m (show n) (W.value (shownOf x)) (empty cid) ∙ sym (ap toLog (c .1));
+          good = subst (AllGood cid) (sym (c .1)) no-more;
           shows = ap (shownBy cid slave d m took (length log) (show n)) q
               ∙ ap (λ (b : Bool). cond {A = List L.Show} b (y ∷ []) []) v
               ∙ flip (isFailSafe x) y ∙ sym (ap (L.shownBy slave m took (length log) S.show) (c .0));
@@ -167,23 +167,25 @@ module _ (cid : ℕ) (slave : Bool) (m : ℕ) (d₀ : Device) (n : ℕ) (T : Tab
         (showing-own (subst (λ (i : ℕ). isDone (beforeShow d t (isShort room) i) ≡ true) (sym q) h)))
         (λ b.
         let q : r ≡ shownIn x t k d = cond-true (isDone a) (shownIn x t k d) (refusedOf a t k d) h in
-        clocks (show k) (ap (λ (r : Result). r .device) q) (empty cid)
+        clocks (show k) (ap (λ (r : Result). r .device) q)
+        (ap (λ (r : Result). isFrameOf cid (onBus (r .writes))) q ∙ empty cid)
         (ap (λ (i : Bool). i && (isDone (r .answer) && not (r .failsafe))) (ap (λ (y : Entry). isAt y k) the-entry ∙ b))
         refl))
         (λ h.
         let q : r ≡ refusedOf a t k d = cond-false (isDone a) (shownIn x t k d) (refusedOf a t k d) h in
         let i = isAt (entryOf cid (d .count) (d .endpoints)) k in
-        clocks (show k) (ap (λ (r : Result). r .device) q ∙ accepted) (empty cid)
+        clocks (show k) (ap (λ (r : Result). r .device) q ∙ accepted)
+        (ap (λ (r : Result). isFrameOf cid (onBus (r .writes))) q ∙ empty cid)
         (ap (λ (b : Bool). i && (b && not (r .failsafe))) (ap (λ (r : Result). isDone (r .answer)) q ∙ h) ∙ and-false i)
         refl)
 
     -- ---- deliver
     -- nothing but the clock step: nothing arrived, or the reader refused it, or it is of no connection
     stray : (s : List ℕ) (a : Answer) (x : Entry) → (isDone a && isRefreshOf cid s) ≡ false
-        → callIn d t room (deliver s) ≡ result a x [] false (afterClock t d) → Match (deliver s)
+        → callIn d t room (deliver s) ≡ result a x nothing false (afterClock t d) → Match (deliver s)
     stray s a x h q =
         clocks (deliver s) (ap (λ (r : Result). r .device) q ∙ accepted)
-        (ap (λ (r : Result). isFrameOf cid (r .writes)) q ∙ empty cid) refl
+        (ap (λ (r : Result). isFrameOf cid (onBus (r .writes))) q ∙ empty cid) refl
         (ap (λ (r : Result). cond (isDone (r .answer) && isRefreshOf cid s) (lastOf s (toLog log)) took) q
         ∙ ap (λ (b : Bool). cond b (lastOf s (toLog log)) took) h)
 
@@ -221,7 +223,6 @@ module _ (cid : ℕ) (slave : Bool) (m : ℕ) (d₀ : Device) (n : ℕ) (T : Tab
             is = i;
             bytes = back .0 .typed .bytes;
             lent = refl;
-            frames = λ w. refl;
             no-show = λ r. refl;
             no-show-by = λ x. refl;
             took-none = refl;

@@ -10,7 +10,7 @@ use Rattle.frame.specs.declared.Command.the-variants as K
 use Rattle.frame.specs.Control.{controlOf, hasForm}
 use Rattle.frame.specs.Reading.{hasCheckWord, fieldsIn, readingOfCopies, readingOf}
 use Rattle.frame.specs.Writing.{headBytes, withCheckWord, twice, subBytes, frameBytes, isWritable}
-use Rattle.steps.specs.Frames.{bytesOf, sentFields, ackFields, setupData}
+use Rattle.steps.specs.Frames.{sentFields, ackFields, setupData}
 use Rattle.settings.specs.Lists.{connectionAt, settingsAt, isConnectionAt, isNewAt, areConnections, isList}
 use Rattle.device.specs.Tables.{endpointAt, findFrom, entryOf, freshUpTo, tickedAll}
 use Rattle.steps.specs.Steps.{start, setNotReady}
@@ -88,7 +88,7 @@ slave = record { done = refl; entry = 0; there = refl; role = refl }
 allowed : run .allowed ≡ true
 unfolding run line exchange answered data-of clocks at-master at-slave list cid afterAll areBytes lastFrom lastOf
     endpointAt findFrom entryOf freshUpTo tickedAll connectionAt settingsAt isConnectionAt isNewAt areConnections isList
-    bytesOf setupData controlOf hasForm hasCheckWord fieldsIn readingOfCopies readingOf headBytes withCheckWord twice
+    setupData controlOf hasForm hasCheckWord fieldsIn readingOfCopies readingOf headBytes withCheckWord twice
     subBytes frameBytes isWritable bitStep bitSteps byteStep crcFrom crc
 allowed = refl
 
@@ -96,6 +96,6 @@ shown : run .shows
     ≡ (L.shown true 5070 (1 ∷ 2 ∷ 3 ∷ 4 ∷ []) 13 13 ∷ L.shown false 5080 (5 ∷ 6 ∷ 7 ∷ 8 ∷ []) 14 14 ∷ [])
 unfolding run line exchange answered data-of clocks at-master at-slave list cid afterAll areBytes lastFrom lastOf
     endpointAt findFrom entryOf freshUpTo tickedAll connectionAt settingsAt isConnectionAt isNewAt areConnections isList
-    bytesOf setupData controlOf hasForm hasCheckWord fieldsIn readingOfCopies readingOf headBytes withCheckWord twice
+    setupData controlOf hasForm hasCheckWord fieldsIn readingOfCopies readingOf headBytes withCheckWord twice
     subBytes frameBytes isWritable bitStep bitSteps byteStep crcFrom crc
 shown = refl

@@ -25,7 +25,7 @@ use Rattle.device.specs.Loading.{loadedOf}
 use Rattle.link.specs.Runs as L
 use Rattle.link.specs.Fresh as F
 use Rattle.link.proofs.AgeProof.{age-theorem}
-use Rattle.devices.specs.Runs.{Call, Event, callIn, Sent, sentAt, frameBy, logged, mayDeliver, handsBytes, tookBy}
+use Rattle.devices.specs.Runs.{Call, Event, callIn, Sent, sentAt, logged, mayDeliver, handsBytes, tookBy}
 use Rattle.devices.specs.Runs.{shownBy, Run, deviceAt, afterCall, resultOf, afterEvent, afterAll, begun}
 use Rattle.devices.specs.Demand.{Holds, settingsIn, ItsSend, Fresh, runOf, Demand, Silence}
 use Rattle.devices.proofs.Tables.{Like, like-trans}
@@ -52,7 +52,7 @@ record Both (cid : ℕ) (slave : Bool) (m : ℕ) (d₀ : Device) (n : ℕ) (d : 
   side : Side d₀ n (callIn d t room call .device) (L.callOf e t by .endpoint)
       (tookBy cid sent call (isDone (callIn d t room call .answer)) took)
       (L.tookBy log by (L.callOf e t by .answer) took′)
-  logs : logged cid slave m call (frameBy call (callIn d t room call .writes)) ≡ toLog
+  logs : logged cid slave m call (callIn d t room call .writes) ≡ toLog
       (L.logged slave m by (L.callOf e t by .writes))
   good : AllGood cid (L.logged slave m by (L.callOf e t by .writes))
   shows : shownBy cid slave d m took (length sent) call (callIn d t room call)

@@ -17,7 +17,7 @@ use Rattle.endpoint.specs.declared.Endpoint.{Endpoint}
 use Rattle.endpoint.specs.declared.Answer.{Answer}
 use Rattle.endpoint.specs.Answers.{isDone}
 use Rattle.endpoint.specs.Time.{afterTick}
-use Rattle.steps.specs.Frames.{Written, nothing, written, bytesOf}
+use Rattle.steps.specs.Frames.{Written, nothing, frame, value, bytesOf}
 use Rattle.steps.specs.Calls.{Outcome}
 use Rattle.steps.specs.Steps as S
 use Rattle.steps.specs.Laws.{Carries, SettingsFit, IsTyped, HandsBytes}
@@ -29,7 +29,7 @@ use Rattle.device.specs.Tables.{endpointAt}
 use Rattle.device.specs.Clock.{isReading, clockStep, afterClock}
 use Rattle.device.specs.Calls.{Result, refusedOf, actedOf, beforeEntry, onEntry}
 use Rattle.link.specs.Runs as L
-use Rattle.devices.specs.Runs.{Call, callIn, isFrameOf, sent, frameBy, lentTo, logged, tookBy, showsValue}
+use Rattle.devices.specs.Runs.{Call, callIn, isFrameOf, sent, onBus, lentTo, logged, tookBy, showsValue}
 use Rattle.devices.specs.Runs.{shownBy}
 use Rattle.devices.proofs.Tables.{Like, like-tick, like-at, like-length, ticked-at, placed-here, placed-there}
 use Rattle.devices.proofs.Loaded.{Table}
@@ -44,39 +44,42 @@ unfolding readingOf
 empty cid = refl
 
 -- no frame of the CID is not logged
-pub not-logged : (cid : ℕ) (slave : Bool) (m : ℕ) (call : Call) (s : List ℕ) → isFrameOf cid s ≡ false
-    → logged cid slave m call s ≡ []
-not-logged cid slave m call s h = cond-false (isFrameOf cid s) (sent slave m s (lentTo call) ∷ []) [] h
+pub not-logged : (cid : ℕ) (slave : Bool) (m : ℕ) (call : Call) (w : Written) → isFrameOf cid (onBus w) ≡ false
+    → logged cid slave m call w ≡ []
+not-logged cid slave m call w h =
+    cond-false (isFrameOf cid (onBus w)) (sent slave m (onBus w) (lentTo call) ∷ []) [] h
 
-writable : (x : Endpoint) (f : Fields) (body : List ℕ) → Carries x (written f body) → IsTyped (written f body)
+writable : (x : Endpoint) (f : Fields) (body : List ℕ) → Carries x (frame f body) → IsTyped (frame f body)
     → Writable f body
 writable x f body c y = record { typed = y; formed = c .0 }
 
 -- of another connection: no frame of the CID
 other-frame : (cid : ℕ) (x : Endpoint) (w : Written) → Carries x w → IsTyped w → (x .settings .connection ≡ cid → ⊥)
-    → isFrameOf cid (bytesOf w) ≡ false
-unfolding bytesOf
+    → isFrameOf cid (onBus w) ≡ false
 other-frame cid x nothing c y ne = empty cid
-other-frame cid x (written f body) c y ne =
+other-frame cid x (frame f body) c y ne =
     frame-of cid f body (writable x f body c y) ∙ ne-eqb (f .connection) cid (λ q. ne (sym (c .1) ∙ q))
+other-frame cid x (value bytes) c y ne = empty cid
 
 -- of this one: it is logged, as fields and body and as bytes
 own-log : (cid : ℕ) (slave : Bool) (m : ℕ) (call : Call) (by : S.Call) (x : Endpoint) (w : Written)
     → Carries x w → IsTyped w → x .settings .connection ≡ cid → lentTo call ≡ L.lentTo by
-    → logged cid slave m call (bytesOf w) ≡ toLog (L.logged slave m by w)
-unfolding bytesOf toLog toSent
-own-log cid slave m call by x nothing c y q l = not-logged cid slave m call [] (empty cid)
-own-log cid slave m call by x (written f body) c y q l =
+    → logged cid slave m call w ≡ toLog (L.logged slave m by w)
+unfolding toLog toSent
+own-log cid slave m call by x nothing c y q l = not-logged cid slave m call nothing (empty cid)
+own-log cid slave m call by x (frame f body) c y q l =
     cond-true (isFrameOf cid (frameBytes f body)) (sent slave m (frameBytes f body) (lentTo call) ∷ []) []
     (frame-of cid f body (writable x f body c y) ∙ eq-eqb (f .connection) cid (c .1 ∙ q))
     ∙ ap (λ (v : Option (List ℕ)). sent slave m (frameBytes f body) v ∷ []) l
+own-log cid slave m call by x (value bytes) c y q l = not-logged cid slave m call (value bytes) (empty cid)
 
 own-good : (cid : ℕ) (slave : Bool) (m : ℕ) (by : S.Call) (x : Endpoint) (w : Written) → Carries x w → IsTyped w
     → x .settings .connection ≡ cid
     → AllGood cid (L.logged slave m by w)
 own-good cid slave m by x nothing c y q = no-more
-own-good cid slave m by x (written f body) c y q =
+own-good cid slave m by x (frame f body) c y q =
     and-more (record { writable = writable x f body c y; has = c .1 ∙ q }) no-more
+own-good cid slave m by x (value bytes) c y q = no-more
 
 -- the call that does the same to the endpoint at n
 pub record Matches (cid : ℕ) (slave : Bool) (m : ℕ) (d : Device) (n t room : ℕ) (log : List L.Entry) (took : ℕ)
@@ -84,7 +87,7 @@ pub record Matches (cid : ℕ) (slave : Bool) (m : ℕ) (d : Device) (n t room :
   pub by : S.Call
   pub endpoint : endpointAt (callIn d t room call .device .endpoints) n
       ≡ L.callOf (endpointAt (d .endpoints) n) t by .endpoint
-  pub logs : logged cid slave m call (frameBy call (callIn d t room call .writes))
+  pub logs : logged cid slave m call (callIn d t room call .writes)
       ≡ toLog (L.logged slave m by (L.callOf (endpointAt (d .endpoints) n) t by .writes))
   pub good : AllGood cid (L.logged slave m by (L.callOf (endpointAt (d .endpoints) n) t by .writes))
   pub shows : shownBy cid slave d m took (length log) call (callIn d t room call)
@@ -103,12 +106,12 @@ module _ (cid : ℕ) (slave : Bool) (m : ℕ) (d₀ : Device) (n : ℕ) (T : Tab
   not-shown : (call : Call) (r : Result) → showsValue cid d call r ≡ false
       → shownBy cid slave d m took (length log) call r ≡ []
   not-shown call r h =
-      cond-false (showsValue cid d call r) (L.shown slave m (r .writes) took (length log) ∷ []) [] h
+      cond-false (showsValue cid d call r) (L.shown slave m (bytesOf (r .writes)) took (length log) ∷ []) [] h
 
   -- the endpoint took the clock step only, and nothing of the CID was written, shown or taken
   idle : (call : Call)
       → endpointAt (callIn d t room call .device .endpoints) n ≡ afterTick (endpointAt (d .endpoints) n) t
-      → isFrameOf cid (frameBy call (callIn d t room call .writes)) ≡ false
+      → isFrameOf cid (onBus (callIn d t room call .writes)) ≡ false
       → showsValue cid d call (callIn d t room call) ≡ false
       → tookBy cid (toLog log) call (isDone (callIn d t room call .answer)) took ≡ took
       → Like (callIn d t room call .device) d
@@ -123,7 +126,7 @@ module _ (cid : ℕ) (slave : Bool) (m : ℕ) (d₀ : Device) (n : ℕ) (T : Tab
       record {
         by = k;
         endpoint = en ∙ sym (ap (λ (o : Outcome). o .endpoint) (i .comes));
-        logs = not-logged cid slave m call (frameBy call (r .writes)) fr
+        logs = not-logged cid slave m call (r .writes) fr
             ∙ sym (ap (λ (x : Written). toLog (L.logged slave m k x)) w);
         good = subst (λ (x : Written). AllGood cid (L.logged slave m k x)) (sym w) no-more;
         shows = not-shown call r sh;
@@ -138,7 +141,7 @@ module _ (cid : ℕ) (slave : Bool) (m : ℕ) (d₀ : Device) (n : ℕ) (T : Tab
   -- the same of a call that left what the clock step leaves
   pub only-clock : (call : Call)
       → callIn d t room call .device ≡ clockStep t d
-      → isFrameOf cid (frameBy call (callIn d t room call .writes)) ≡ false
+      → isFrameOf cid (onBus (callIn d t room call .writes)) ≡ false
       → showsValue cid d call (callIn d t room call) ≡ false
       → tookBy cid (toLog log) call (isDone (callIn d t room call .answer)) took ≡ took
       → Match call
@@ -151,7 +154,6 @@ module _ (cid : ℕ) (slave : Bool) (m : ℕ) (d₀ : Device) (n : ℕ) (T : Tab
     pub is : callIn d t room call ≡ onEntry (λ e. S.stepOf e t by) d t short k
     pub bytes : HandsBytes by
     pub lent : lentTo call ≡ L.lentTo by
-    pub frames : (w : List ℕ) → frameBy call w ≡ w
     pub no-show : (r : Result) → showsValue cid d call r ≡ false
     pub no-show-by : (x : Endpoint) → L.shownBy slave m took (length log) by x ≡ []
     pub took-none : tookBy cid (toLog log) call false took ≡ took
@@ -166,8 +168,7 @@ module _ (cid : ℕ) (slave : Bool) (m : ℕ) (d₀ : Device) (n : ℕ) (T : Tab
         let a = beforeEntry d t short k in
         let q : callIn d t room call ≡ refusedOf a t k d = E .is ∙ not-reached d t by short k h in
         only-clock call (ap (λ (r : Result). r .device) q ∙ clocked)
-        (ap (λ (r : Result). isFrameOf cid (frameBy call (r .writes))) q ∙ ap (isFrameOf cid) (E .frames [])
-        ∙ empty cid)
+        (ap (λ (r : Result). isFrameOf cid (onBus (r .writes))) q ∙ empty cid)
         (E .no-show (callIn d t room call))
         (ap (λ (b : Bool). tookBy cid (toLog log) call b took) (ap (λ (r : Result). isDone (r .answer)) q ∙ h)
         ∙ E .took-none)
@@ -203,8 +204,7 @@ module _ (cid : ℕ) (slave : Bool) (m : ℕ) (d₀ : Device) (n : ℕ) (T : Tab
           idle call
           (ap (λ (r : Result). endpointAt (r .device .endpoints) n) acted
           ∙ placed-there (clockStep t d) k n (does-there .endpoint) (λ q. ne (sym q)) ∙ ticked-at d t n)
-          (ap (λ (r : Result). isFrameOf cid (frameBy call (r .writes))) acted
-          ∙ ap (isFrameOf cid) (E .frames (bytesOf w))
+          (ap (λ (r : Result). isFrameOf cid (onBus (r .writes))) acted
           ∙ other-frame cid e w (step-laws .carries e t by) its-typed
           (λ q. T .others k counted small ne (ap (λ (s : Settings). s .connection) (sym (like-at same k)) ∙ q)))
           (E .no-show (callIn d t room call)) (E .took-other ne (isDone (callIn d t room call .answer))) acted-like
@@ -224,8 +224,7 @@ module _ (cid : ℕ) (slave : Bool) (m : ℕ) (d₀ : Device) (n : ℕ) (T : Tab
           by = by;
           endpoint = ap (λ (r : Result). endpointAt (r .device .endpoints) n) q
               ∙ placed-here (clockStep t d) n (o .endpoint) l ∙ sym (ap (λ (y : Outcome). y .endpoint) p);
-          logs = ap (λ (r : Result). logged cid slave m call (frameBy call (r .writes))) q
-              ∙ ap (logged cid slave m call) (E .frames (bytesOf (o .writes)))
+          logs = ap (λ (r : Result). logged cid slave m call (r .writes)) q
               ∙ own-log cid slave m call by e (o .writes) (step-laws .carries e t by) (its-typed n E h) c (E .lent)
               ∙ sym (ap (λ (y : Outcome). toLog (L.logged slave m by (y .writes))) p);
           good = subst (λ (y : Outcome). AllGood cid (L.logged slave m by (y .writes))) (sym p)

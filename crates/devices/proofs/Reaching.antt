@@ -1,7 +1,7 @@
 -- Which connection a call on a device reaches: none, and the clock step is all; or one, whose step it takes.
 use mathlib.Core.Path.{_≡_, refl, sym, ap, _∙_}
 use mathlib.Core.Bool.{Bool, true, false, _&&_, not, cond, false≢true}
-use mathlib.Core.List.{List, []}
+use mathlib.Core.List.{List}
 use mathlib.Core.Logic.{_⊎_, inl, inr}
 use Prim.Native.Nat.{ℕ, _<_}
 use lib.Dec.{eqb, ltb}
@@ -20,6 +20,7 @@ use Rattle.endpoint.specs.declared.Answer.{Answer}
 use Rattle.endpoint.specs.declared.Answer.the-variants.{Done, Dropped, Ended}
 use Rattle.endpoint.specs.Answers.{isDone}
 use Rattle.endpoint.specs.Time.{isExpired}
+use Rattle.steps.specs.Frames.{nothing}
 use Rattle.steps.specs.Calls.{Outcome}
 use Rattle.steps.specs.Deliveries.{deliverOf}
 use Rattle.steps.specs.Steps as S
@@ -114,7 +115,7 @@ not-done last t short r = go (isReading last t) short
 -- nothing arrived, or the reader refused it, or it is of no connection; or it is a frame of the connection at k
 pub data Arrival (d : Device) (t room : ℕ) (s : List ℕ) : Type 0 where
   stray : (a : Answer) (x : Entry) → (isDone a ≡ false) ⊎ (eqb (length s) 0 ≡ true)
-      → deliverIn d t room s ≡ result a x [] false (afterClock t d) → Arrival d t room s
+      → deliverIn d t room s ≡ result a x nothing false (afterClock t d) → Arrival d t room s
   framed : (f : Fields) (from to k : ℕ) → readingOf s ≡ Frame f from to
       → entryOf (f .connection) (d .count) (d .endpoints) ≡ At k
       → deliverIn d t room s ≡ onEntry (λ e. deliverOf e t f (slice from to s)) d t (isShort room) k

@@ -16,7 +16,8 @@ use Rattle.endpoint.specs.declared.Endpoint.{Endpoint}
 use Rattle.endpoint.specs.Answers.{isDone}
 use Rattle.endpoint.specs.Time.{afterTick}
 use Rattle.endpoint.specs.Due.{requestLimit}
-use Rattle.steps.specs.Frames.{Written, nothing, written, bytesOf}
+use Rattle.steps.specs.Frames.{Written, nothing, frame}
+use Rattle.steps.specs.Frames as W
 use Rattle.steps.specs.Calls.{Outcome}
 use Rattle.steps.specs.Steps as S
 use Rattle.steps.specs.Laws.{Carries, SettingsFit, IsTyped, HandsBytes, requestsIn, isStart}
@@ -26,8 +27,8 @@ use Rattle.steps.proofs.Keeps.{bcase}
 use Rattle.device.specs.declared.Device.{Device}
 use Rattle.device.specs.Tables.{endpointAt, unloaded}
 use Rattle.device.specs.Clock.{isReading, clockStep, afterClock}
-use Rattle.device.specs.Calls.{Result, refusedOf, actedOf, beforeEntry, onEntry, isShort, beforeShow, shownIn}
-use Rattle.devices.specs.Runs.{Call, act, send, deliver, show, callIn, frameBy, handsBytes, isAt}
+use Rattle.device.specs.Calls.{Result, result, refusedOf, actedOf, beforeEntry, onEntry, isShort, beforeShow, shownIn}
+use Rattle.devices.specs.Runs.{Call, act, send, deliver, show, callIn, onBus, handsBytes, isAt}
 use Rattle.devices.specs.Requests.{Step, load, call, isRequestIn, isStartOf, countAfter, Watched, watched}
 use Rattle.devices.specs.Requests.{afterStep, afterSteps, givesBytes, allGiveBytes, RequestCount}
 use Rattle.devices.proofs.Tables.{Like, tick-keeps, like-tick, like-at, like-length, ticked-at, placed-here}
@@ -45,11 +46,12 @@ sound-like {d} {d′} l s = record {
 
 -- what is written reads back, and counts as what it is
 count-back : (e : Endpoint) (w : Written) → Carries e w → IsTyped w
-    → cond (isRequestIn (readingOf (bytesOf w))) 1 0 ≡ requestsIn w
-unfolding bytesOf readingOf
+    → cond (isRequestIn (readingOf (onBus w))) 1 0 ≡ requestsIn w
+unfolding readingOf
 count-back e nothing c y = refl
-count-back e (written f body) c y =
+count-back e (frame f body) c y =
     ap (λ (b : Bool). cond b 1 0) (ap isRequestIn (round-trip .there f body (record { typed = y; formed = c .0 }) .0))
+count-back e (W.value bytes) c y = refl
 
 -- no bytes are no request
 empty : isRequestIn (readingOf []) ≡ false
@@ -90,28 +92,22 @@ module _ (n : ℕ) (d : Device) (count : ℕ) (H : Held n d count) (t : ℕ) whe
     abbrev After : Call → Type 0
     After c = Held n (callIn d t room c .device) (countAfter n c (callIn d t room c) count)
 
-    -- the clock step at most: no start is done, nothing is written
-    idle : (c : Call) → Held n (callIn d t room c .device) count
-        → (isStartOf n c && isDone (callIn d t room c .answer)) ≡ false
-        → frameBy c (callIn d t room c .writes) ≡ [] → After c
-    idle c k s w =
-        let r = callIn d t room c in
-        let q : countAfter n c r count ≡ count =
-        rw (s, w, empty, and-false (isAt (r .entry) n)) in
-        subst (Held n (r .device)) (sym q) k
+    -- the clock step at most: no start is done, nothing is put on the bus
+    idle : (c : Call) (r : Result) → callIn d t room c ≡ r → Held n (r .device) count
+        → (isStartOf n c && isDone (r .answer)) ≡ false → onBus (r .writes) ≡ [] → After c
+    idle c r q k s w =
+        let none : countAfter n c r count ≡ count = rw (s, w, empty, and-false (isAt (r .entry) n)) in
+        subst (λ (x : Result). Held n (x .device) (countAfter n c x count)) (sym q)
+        (subst (Held n (r .device)) (sym none) k)
 
     -- ---- a call on an entry
     module _ (c : Call) (by : S.Call) (short : Bool) (k : ℕ)
         (is : callIn d t room c ≡ onEntry (λ e. S.stepOf e t by) d t short k) (bytes : HandsBytes by)
-        (frames : (w : List ℕ) → frameBy c w ≡ w) (starts : isStartOf n c ≡ (isStart by && eqb k n)) where
+        (starts : isStartOf n c ≡ (isStart by && eqb k n)) where
       refused : isDone (beforeEntry d t short k) ≡ false → After c
       refused h =
-          let q : callIn d t room c ≡ refusedOf (beforeEntry d t short k) t k d =
-          is ∙ A.not-reached d t by short k h in
-          idle c (subst (λ (r : Result). Held n (r .device) count) (sym q) clocked)
-          (ap (λ (r : Result). isStartOf n c && isDone (r .answer)) q ∙ ap (λ (b : Bool). isStartOf n c && b) h
-          ∙ and-false (isStartOf n c))
-          (ap (λ (r : Result). frameBy c (r .writes)) q ∙ frames [])
+          idle c (refusedOf (beforeEntry d t short k) t k d) (is ∙ A.not-reached d t by short k h) clocked
+          (ap (λ (b : Bool). isStartOf n c && b) h ∙ and-false (isStartOf n c)) refl
 
       module _ (h : isDone (beforeEntry d t short k) ≡ true) where
         abbrev e : Endpoint
@@ -152,10 +148,10 @@ module _ (n : ℕ) (d : Device) (count : ℕ) (H : Held n d count) (t : ℕ) whe
             let kept : e .setup .requests ≡ count =
             ap (λ (j : ℕ). endpointAt (d .endpoints) j .setup .requests) i ∙ H .same in
             let typed = step-laws .typed e t by (H .sound .fits k (A.reached-counted d t by short k h) small) bytes in
-            let more = added (isRequestIn (readingOf (bytesOf (o .writes)))) count (requestsIn (o .writes))
+            let more = added (isRequestIn (readingOf (onBus (o .writes)))) count (requestsIn (o .writes))
             (count-back e (o .writes) (step-laws .carries e t by) typed) in
             let q : countAfter n c (actedOf o t k d) count ≡ o .endpoint .setup .requests =
-            rw (starts, b, and-true (isStart by), frames (bytesOf (o .writes)), more, ← kept)
+            rw (starts, b, and-true (isStart by), more, ← kept)
             (sym (step-laws .counts e t by)) in
             let l : k < length (clockStep t d .endpoints) =
             subst (λ (m : ℕ). k < m) (sym (like-length (like-tick d t) ∙ H .sound .length8)) small in
@@ -175,31 +171,25 @@ module _ (n : ℕ) (d : Device) (count : ℕ) (H : Held n d count) (t : ℕ) whe
     showing k =
         let x = afterTick (endpointAt (d .endpoints) k) t in
         let a = beforeShow d t (isShort room) k in
-        let r = callIn d t room (show k) in
-        let held : Held n (r .device) count =
-        bcase (isDone a)
-        (λ h. subst (λ (y : Result). Held n (y .device) count)
-        (sym (cond-true (isDone a) (shownIn x t k d) (refusedOf a t k d) h)) ticked)
-        (λ h. subst (λ (y : Result). Held n (y .device) count)
-        (sym (cond-false (isDone a) (shownIn x t k d) (refusedOf a t k d) h)) clocked) in
-        idle (show k) held refl refl
+        let shows = shownIn x t k d in
+        let refuses = refusedOf a t k d in
+        bcase (isDone a) (λ h. idle (show k) shows (cond-true (isDone a) shows refuses h) ticked refl refl)
+        (λ h. idle (show k) refuses (cond-false (isDone a) shows refuses h) clocked refl refl)
 
     delivering : (s : List ℕ) → handsBytes (deliver s) ≡ true → After (deliver s)
     delivering s b = go (A.arrival d t room s)
       where
         go : A.Arrival d t room s → After (deliver s)
-        go (A.stray a x w q) =
-            idle (deliver s) (subst (λ (r : Result). Held n (r .device) count) (sym q) clocked) refl
-            (ap (λ (r : Result). r .writes) q)
+        go (A.stray a x w q) = idle (deliver s) (result a x nothing false (afterClock t d)) q clocked refl refl
         go (A.framed f from to k i h q) =
             on-entry (deliver s) (S.deliver f (slice from to s)) (isShort room) k q
-            (round-trip .back s f from to (bytes-of s b) i .0 .typed .bytes) (λ w. refl) refl
+            (round-trip .back s f from to (bytes-of s b) i .0 .typed .bytes) refl
 
     called : (c : Call) → handsBytes c ≡ true → After c
     called (act a k) b =
-        on-entry (act a k) (S.act a) (A.lends room a) k (A.act-in d t room a k) tt (λ w. refl) refl
+        on-entry (act a k) (S.act a) (A.lends room a) k (A.act-in d t room a k) tt refl
     called (send k value) b =
-        on-entry (send k value) (S.send value) (isShort room) k refl (bytes-of value b) (λ w. refl) refl
+        on-entry (send k value) (S.send value) (isShort room) k refl (bytes-of value b) refl
     called (deliver s) b = delivering s b
     called (show k) b = showing k
 

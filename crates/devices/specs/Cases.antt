@@ -24,7 +24,8 @@ use Rattle.endpoint.specs.Updates.{inState, timedFrom, withTimestamps, withSetu
 use Rattle.endpoint.specs.Updates.{withNotReady}
 use Rattle.endpoint.specs.TCode.{tCodeOf, ccOf, slaveTime}
 use Rattle.transitions.specs.ByCall.{freshOf}
-use Rattle.steps.specs.Frames.{Written, nothing, written, setupData, sentFields, ackFields, refreshFields, replyFields}
+use Rattle.steps.specs.Frames.{Written, nothing, frame, value, setupData, sentFields, ackFields, refreshFields}
+use Rattle.steps.specs.Frames.{replyFields}
 use Rattle.steps.specs.Calls.{Outcome, startOf, restartOf, sendOf, stopOf}
 use Rattle.steps.specs.Deliveries.{deliverOf}
 use Rattle.settings.specs.Words.{settingsOf}
@@ -97,10 +98,11 @@ emptyAt t room = numberOf (deliverIn shownFrom t room [] .answer)
 abbrev stateAfterEmpty : ℕ → State
 stateAfterEmpty t = endpointAt (deliverIn shownFrom t 248 [] .device .endpoints) 0 .state
 
--- CTRL of what a call writes; 0 for nothing
+-- CTRL of the frame that a call writes; 0 for none
 abbrev controlIn : Written → ℕ
 controlIn nothing = 0
-controlIn (written f body) = controlOf f
+controlIn (frame f body) = controlOf f
+controlIn (value bytes) = 0
 
 -- what a request at 6,040 comes to at a station that is not ready, in a state since 6,000, with an s2 of 5
 abbrev asked : State → Command → List ℕ → Outcome

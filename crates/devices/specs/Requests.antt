@@ -16,7 +16,7 @@ use Rattle.device.specs.declared.Device.{Device}
 use Rattle.device.specs.Tables.{endpointAt, unloaded}
 use Rattle.device.specs.Loading.{loadedOf}
 use Rattle.device.specs.Calls.{Result}
-use Rattle.devices.specs.Runs.{Call, act, send, deliver, show, callIn, frameBy, handsBytes, isAt}
+use Rattle.devices.specs.Runs.{Call, act, send, deliver, show, callIn, onBus, handsBytes, isAt}
 
 -- a settings list that is loaded; or a call with its clock reading and the length of the output lent to it
 pub data Step : Type 0 where
@@ -36,13 +36,13 @@ isStartOf n (deliver s) = false
 isStartOf n (show k) = false
 
 -- the call was the entry's, and it wrote a request
-abbrev pub wroteRequest : ℕ → Call → Result → Bool
-wroteRequest n c r = isAt (r .entry) n && isRequestIn (readingOf (frameBy c (r .writes)))
+abbrev pub wroteRequest : ℕ → Result → Bool
+wroteRequest n r = isAt (r .entry) n && isRequestIn (readingOf (onBus (r .writes)))
 
 -- a start of the entry that is done begins anew, each request written adds one
 abbrev pub countAfter : ℕ → Call → Result → ℕ → ℕ
 countAfter n c r count =
-    cond (isStartOf n c && isDone (r .answer)) 0 (cond (wroteRequest n c r) (suc count) count)
+    cond (isStartOf n c && isDone (r .answer)) 0 (cond (wroteRequest n r) (suc count) count)
 
 -- ---- a device, and the count of one entry
 pub record Watched : Type 0 where

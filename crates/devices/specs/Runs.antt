@@ -11,6 +11,7 @@ use Rattle.frame.specs.declared.Reading.{Reading}
 use Rattle.frame.specs.declared.Reading.the-variants.{Frame, Refused}
 use Rattle.frame.specs.Control.{is}
 use Rattle.frame.specs.Reading.{same, readingOf}
+use Rattle.frame.specs.Writing.{frameBytes}
 use Rattle.endpoint.specs.Answers.{isDone}
 use Rattle.device.specs.declared.Device.{Device}
 use Rattle.device.specs.declared.Entry.{Entry}
@@ -18,6 +19,8 @@ use Rattle.device.specs.declared.Entry.the-variants.{Absent, At}
 use Rattle.device.specs.Tables.{entryOf}
 use Rattle.device.specs.Clock.{isReading}
 use Rattle.device.specs.Calls.{Result, startIn, sendIn, stopIn, restartIn, setNotReadyIn, showIn, deliverIn}
+use Rattle.steps.specs.Frames.{Written, nothing, frame, bytesOf}
+use Rattle.steps.specs.Frames as W
 use Rattle.steps.specs.Steps.{Act, start, stop, restart, setNotReady}
 use Rattle.link.specs.Runs.{Clocks, momentOf, Show, shown}
 
@@ -87,12 +90,11 @@ noSent = sent false 0 [] none
 unfoldable pub sentAt : List Sent → ℕ → Sent
 sentAt l i = getD l i noSent
 
--- what a call wrote to the bus; a show writes a value and no frame
-abbrev pub frameBy : Call → List ℕ → List ℕ
-frameBy (act a n) writes = writes
-frameBy (send n value) writes = writes
-frameBy (deliver s) writes = writes
-frameBy (show n) writes = []
+-- what a call put on the bus: a value is its user's
+abbrev pub onBus : Written → List ℕ
+onBus nothing = []
+onBus (frame f body) = frameBytes f body
+onBus (W.value bytes) = []
 
 abbrev pub lentTo : Call → Option (List ℕ)
 lentTo (act a n) = none
@@ -100,8 +102,8 @@ lentTo (send n value) = some value
 lentTo (deliver s) = none
 lentTo (show n) = none
 
-abbrev pub logged : ℕ → Bool → ℕ → Call → List ℕ → List Sent
-logged cid slave m call bytes = cond (isFrameOf cid bytes) (sent slave m bytes (lentTo call) ∷ []) []
+abbrev pub logged : ℕ → Bool → ℕ → Call → Written → List Sent
+logged cid slave m call w = cond (isFrameOf cid (onBus w)) (sent slave m (onBus w) (lentTo call) ∷ []) []
 
 -- one more than the last place of these bytes, counted on from n; found where none is left
 unfoldable pub lastFrom : ℕ → List ℕ → List Sent → ℕ → ℕ
@@ -168,7 +170,7 @@ showsValue cid d (show n) r =
 
 abbrev pub shownBy : ℕ → Bool → Device → ℕ → ℕ → ℕ → Call → Result → List Show
 shownBy cid slave d m took n call r =
-    cond (showsValue cid d call r) (shown slave m (r .writes) took n ∷ []) []
+    cond (showsValue cid d call r) (shown slave m (bytesOf (r .writes)) took n ∷ []) []
 
 -- a call whose clock reading is accepted; moments never fall
 abbrev pub afterCall : ℕ → Clocks → Run → Event → Result → Run
@@ -177,7 +179,7 @@ afterCall cid c l v r =
     record {
       master = cond (v .slave) (l .master) (r .device);
       slave = cond (v .slave) (r .device) (l .slave);
-      log = l .log ++ logged cid (v .slave) m (v .call) (frameBy (v .call) (r .writes));
+      log = l .log ++ logged cid (v .slave) m (v .call) (r .writes);
       shows = l .shows
           ++ shownBy cid (v .slave) (deviceAt l (v .slave)) m (tookAt l (v .slave)) (length (l .log)) (v .call) r;
       masterTook = cond (v .slave) (l .masterTook) (tookBy cid (l .log) (v .call) (isDone (r .answer)) (l .masterTook));

@@ -18,7 +18,8 @@ use Rattle.endpoint.specs.declared.Answer.the-variants.{Ended}
 use Rattle.endpoint.specs.Answers.{isDone}
 use Rattle.endpoint.specs.Time.{lastReading, isExpired, endedOf}
 use Rattle.transitions.specs.ByCall.{freshOf}
-use Rattle.steps.specs.Frames.{Written, nothing, written, sentFields}
+use Rattle.steps.specs.Frames.{Written, nothing, frame, sentFields}
+use Rattle.steps.specs.Frames as W
 use Rattle.steps.specs.Calls.{Outcome, outcome, isFailSafe, shownOf}
 use Rattle.steps.specs.Steps.{Call, act, send, deliver, show, stepOf}
 
@@ -72,8 +73,9 @@ lentTo show = none
 
 abbrev pub logged : Bool → ℕ → Call → Written → List Entry
 logged slave m call nothing = []
-logged slave m call (written f body) =
+logged slave m call (frame f body) =
     record { slave = slave; moment = m; fields = f; body = body; lent = lentTo call } ∷ []
+logged slave m call (W.value bytes) = []
 
 -- ---- the frame that a deliver hands over is named by its last place in the log
 unfoldable pub sameFields : Fields → Fields → Bool

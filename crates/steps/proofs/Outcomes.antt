@@ -11,19 +11,18 @@ use Rattle.endpoint.specs.declared.Reason.the-variants as R
 use Rattle.endpoint.specs.declared.Answer.{Answer}
 use Rattle.endpoint.specs.declared.Answer.the-variants.{Dropped}
 use Rattle.steps.specs.declared.Stepped.{Stepped}
-use Rattle.steps.specs.Frames.{nothing, written, bytesOf}
+use Rattle.steps.specs.Frames.{nothing, frame}
 use Rattle.steps.specs.Calls.{Outcome, outcome}
 use Rattle.steps.specs.Says.{withRoom, steppedOf, StepSays, WholeSays}
 
 -- ---- an outcome that writes nothing, and one that writes a frame
 module _ (out : List ℕ) (o : Outcome) (a : Answer) (x : Endpoint) where
   pub quiet-step : {r : Stepped} → o ≡ outcome a x nothing → r ≡ steppedOf a x 0 → StepSays o out out r
-  unfolding bytesOf over
+  unfolding over
   quiet-step q s = record { answered = rw (s, q); left = rw (s, q); counted = rw (s, q); output = rw q }
 
-  pub loud-step : (f : Fields) (body : List ℕ) {out′ : List ℕ} {n : ℕ} {r : Stepped} → o ≡ outcome a x (written f body)
+  pub loud-step : (f : Fields) (body : List ℕ) {out′ : List ℕ} {n : ℕ} {r : Stepped} → o ≡ outcome a x (frame f body)
       → WholeSays f body out out′ n → r ≡ steppedOf a x n → StepSays o out out′ r
-  unfolding bytesOf
   loud-step f body q w s =
       record { answered = rw (s, q); left = rw (s, q); counted = rw (s, q) (w .counted); output = rw q (w .output) }
 
@@ -44,6 +43,6 @@ module _ (out : List ℕ) (e : Endpoint) (o : Outcome) where
         → StepSays (withRoom (length out) e o) out out r
     quiet q s = roomy h (quiet-step out o a x q s)
 
-    pub loud : (f : Fields) (body : List ℕ) {out′ : List ℕ} {n : ℕ} {r : Stepped} → o ≡ outcome a x (written f body)
+    pub loud : (f : Fields) (body : List ℕ) {out′ : List ℕ} {n : ℕ} {r : Stepped} → o ≡ outcome a x (frame f body)
         → WholeSays f body out out′ n → r ≡ steppedOf a x n → StepSays (withRoom (length out) e o) out out′ r
     loud f body q w s = roomy h (loud-step out o a x f body q w s)

@@ -17,7 +17,7 @@ use Rattle.endpoint.specs.Due.{mayRequest, isExhausted}
 use Rattle.endpoint.specs.Time.{isAbove, endedOf, timeOf}
 use Rattle.endpoint.specs.Updates.{withNotReady}
 use Rattle.transitions.specs.ByCall.{startedOf, restartedOf, requestedOf, refreshSentOf, stoppedOf}
-use Rattle.steps.specs.Frames.{Written, nothing, written, setupData, dueData, sendWidth, showWidth, requestFields}
+use Rattle.steps.specs.Frames.{Written, nothing, frame, setupData, dueData, sendWidth, showWidth, requestFields}
 use Rattle.steps.specs.Frames.{refreshFields, disconnectFields}
 
 -- what a call comes to: its answer, the endpoint it leaves, what it writes
@@ -62,8 +62,8 @@ sendFaults e t width =
 -- what a send that is done comes to
 abbrev pub sentOf : Endpoint → ℕ → List ℕ → Outcome
 sentOf e t value =
-    cond (isState (e .state) Refresh) (outcome Done (refreshSentOf e t) (written (refreshFields e t) value))
-    (outcome Done (requestedOf e t) (written (requestFields e t) (dueData e)))
+    cond (isState (e .state) Refresh) (outcome Done (refreshSentOf e t) (frame (refreshFields e t) value))
+    (outcome Done (requestedOf e t) (frame (requestFields e t) (dueData e)))
 
 abbrev pub sendOf : Endpoint → ℕ → List ℕ → Outcome
 sendOf e t value =
@@ -78,7 +78,7 @@ stopFaults e t =
 
 abbrev pub disconnectOf : Endpoint → ℕ → Written
 disconnectOf e t = cond (e .settings .slave) nothing
-    (written (disconnectFields e t) (setupData (e .settings) K.Disconnect))
+    (frame (disconnectFields e t) (setupData (e .settings) K.Disconnect))
 
 abbrev pub stopOf : Endpoint → ℕ → Outcome
 stopOf e t =

@@ -19,7 +19,7 @@ use Rattle.endpoint.specs.Table.{isState, isSetup, nextOf, isNo}
 use Rattle.endpoint.specs.Due.{requestDue, isPending, answersTo, isBusy}
 use Rattle.endpoint.specs.Time.{ageOf, isAbove, isTooFarAhead, allowanceOf, isTooLate, endedOf}
 use Rattle.transitions.specs.ByFrame.{refreshedOf, endedBy, takenOf, heardOf}
-use Rattle.steps.specs.Frames.{Written, nothing, written, setupData, dueData, showWidth, replyFields}
+use Rattle.steps.specs.Frames.{Written, nothing, frame, setupData, dueData, showWidth, replyFields}
 use Rattle.steps.specs.Calls.{Outcome, outcome, dropped}
 
 -- ---- S-Refresh, at either end
@@ -51,7 +51,7 @@ requestFaults e f body =
 abbrev pub repliedOf : Endpoint → Fields → List ℕ → Answer → Written
 repliedOf e f body a =
     cond (isDropped a || is (f .command) K.Disconnect) nothing
-    (written (replyFields e f (isDone a && isBusy e (f .command)) (isEnded a)) body)
+    (frame (replyFields e f (isDone a && isBusy e (f .command)) (isEnded a)) body)
 
 abbrev pub takeRequest : Endpoint → ℕ → Fields → List ℕ → Outcome
 takeRequest e t f body =

@@ -15,14 +15,16 @@ use Rattle.endpoint.specs.declared.Endpoint.{Endpoint}
 use Rattle.endpoint.specs.Due.{requestDue}
 use Rattle.endpoint.specs.Time.{span, timeOf}
 
--- what a call writes
+-- what a call writes: a frame for the bus, or bytes for its user
 pub data Written : Type 0 where
   nothing : Written
-  written : Fields → List ℕ → Written
+  frame : Fields → List ℕ → Written
+  value : List ℕ → Written
 
-unfoldable pub bytesOf : Written → List ℕ
+abbrev pub bytesOf : Written → List ℕ
 bytesOf nothing = []
-bytesOf (written f body) = frameBytes f body
+bytesOf (frame f body) = frameBytes f body
+bytesOf (value bytes) = bytes
 
 -- words as bytes
 abbrev pub wordsBytes : List ℕ → List ℕ

@@ -23,18 +23,20 @@ use Rattle.endpoint.specs.Time.{isAbove, isTooFarAhead, isTooLate, allowanceOf,
 use Rattle.endpoint.specs.Updates.{withNotReady}
 use Rattle.transitions.specs.ByCall.{startedOf, restartedOf, requestedOf, refreshSentOf, stoppedOf}
 use Rattle.transitions.specs.ByFrame.{refreshedOf, answeredOf, endedBy, heardOf}
-use Rattle.steps.specs.Frames.{Written, nothing, written, setupData, dueData, sendWidth, showWidth, requestFields}
+use Rattle.steps.specs.Frames.{Written, nothing, frame, setupData, dueData, sendWidth, showWidth, requestFields}
 use Rattle.steps.specs.Frames.{refreshFields, replyFields, isRequest}
+use Rattle.steps.specs.Frames as W
 use Rattle.steps.specs.Calls.{outcome, dropped, disconnectOf, startOf, restartOf, setNotReadyOf, sendOf, stopOf}
 use Rattle.steps.specs.Deliveries.{paddedOf, takeRefresh, takeRequest, takeReply}
 use Rattle.steps.specs.Steps.{begins, Call, act, send, deliver, show, stepOf}
 
--- what is written can be written, and carries the endpoint's CID and its role's Application bit
+-- a frame that is written can be written, and carries the endpoint's CID and its role's Application bit
 abbrev pub Carries : Endpoint → Written → Type 0
 Carries e nothing = Unit {0}
-Carries e (written f body) =
+Carries e (frame f body) =
     (isWritable f (length body) ≡ true) × (f .connection ≡ e .settings .connection)
     × (f .application ≡ e .settings .slave)
+Carries e (W.value bytes) = Unit {0}
 
 -- settings whose numbers fit into the words of setup requests
 pub record SettingsFit (s : Settings) : Type 0 where
@@ -45,10 +47,11 @@ pub record SettingsFit (s : Settings) : Type 0 where
   pub words : 32 * s .masterwords + s .slavewords < 2 ^ 32
   pub station : s .station < 2 ^ 32
 
--- what is written has its numbers within their types
+-- a frame that is written has its numbers within their types
 abbrev pub IsTyped : Written → Type 0
 IsTyped nothing = Unit {0}
-IsTyped (written f body) = Typed f body
+IsTyped (frame f body) = Typed f body
+IsTyped (W.value bytes) = Unit {0}
 
 -- what a call hands over are bytes
 abbrev pub HandsBytes : Call → Type 0
@@ -61,7 +64,8 @@ HandsBytes show = Unit {0}
 -- how many of them are written
 abbrev pub requestsIn : Written → ℕ
 requestsIn nothing = 0
-requestsIn (written f body) = cond (isRequest f) 1 0
+requestsIn (frame f body) = cond (isRequest f) 1 0
+requestsIn (W.value bytes) = 0
 
 abbrev pub isStart : Call → Bool
 isStart (act a) = begins a
@@ -87,7 +91,7 @@ pub record RefreshSent (e : Endpoint) (t : ℕ) (value : List ℕ) : Type 0 wher
   pub refresh : isState (e .state) Refresh ≡ true
   pub width : length value ≡ sendWidth (e .settings)
   pub above : isAbove (e .timestamps .sent) (timeOf e t) ≡ true
-  pub comes : sendOf e t value ≡ outcome Done (refreshSentOf e t) (written (refreshFields e t) value)
+  pub comes : sendOf e t value ≡ outcome Done (refreshSentOf e t) (frame (refreshFields e t) value)
 
 pub record RequestSent (e : Endpoint) (t : ℕ) (value : List ℕ) : Type 0 where
   pub master : e .settings .slave ≡ false
@@ -96,7 +100,7 @@ pub record RequestSent (e : Endpoint) (t : ℕ) (value : List ℕ) : Type 0 wher
   pub few : e .setup .requests < requestLimit
   pub above : isAbove (e .timestamps .sent) (timeOf e t) ≡ true
   pub comes : sendOf e t value
-      ≡ outcome Done (requestedOf e t) (written (requestFields e t) (dueData e))
+      ≡ outcome Done (requestedOf e t) (frame (requestFields e t) (dueData e))
 
 pub record StopDone (e : Endpoint) (t : ℕ) : Type 0 where
   pub begun : isState (e .state) Close ≡ false
@@ -117,7 +121,7 @@ pub record RequestTaken (e : Endpoint) (t : ℕ) (f : Fields) (body : List ℕ) 
   pub above : isAbove (e .timestamps .accepted) (f .timestamp) ≡ true
   pub contents : body ≡ setupData (e .settings) (f .command)
   pub comes : takeRequest e t f body
-      ≡ outcome Done (answeredOf e t f) (written (replyFields e f (isBusy e (f .command)) false) body)
+      ≡ outcome Done (answeredOf e t f) (frame (replyFields e f (isBusy e (f .command)) false) body)
 
 pub record DisconnectTaken (e : Endpoint) (t : ℕ) (f : Fields) (body : List ℕ) : Type 0 where
   pub turn : isNo (nextOf (f .command) (e .state)) ≡ false
@@ -135,7 +139,7 @@ pub record ReplyTaken (e : Endpoint) (t : ℕ) (f : Fields) (body : List ℕ) : 
 pub record StepLaws : Type 0 where
   -- settings never change
   pub keeps : (e : Endpoint) (t : ℕ) (call : Call) → stepOf e t call .endpoint .settings ≡ e .settings
-  -- what is written can be written, and is the endpoint's
+  -- a frame that is written can be written, and is the endpoint's
   pub carries : (e : Endpoint) (t : ℕ) (call : Call) → Carries e (stepOf e t call .writes)
   pub typed : (e : Endpoint) (t : ℕ) (call : Call) → SettingsFit (e .settings) → HandsBytes call
       → IsTyped (stepOf e t call .writes)

@@ -5,8 +5,8 @@ use Prim.Native.Nat.{ℕ}
 use Rattle.frame.specs.declared.Fields.{Fields}
 use Rattle.endpoint.specs.declared.Endpoint.{Endpoint}
 use Rattle.endpoint.specs.declared.Answer.the-variants.{Done}
-use Rattle.steps.specs.Frames.{nothing}
-use Rattle.steps.specs.Calls.{Outcome, outcome, startOf, sendOf, stopOf, restartOf, setNotReadyOf}
+use Rattle.steps.specs.Frames as W
+use Rattle.steps.specs.Calls.{Outcome, outcome, startOf, sendOf, stopOf, restartOf, setNotReadyOf, shownOf}
 use Rattle.steps.specs.Deliveries.{deliverOf}
 
 -- the calls that hand over no bytes, and show nothing
@@ -40,4 +40,4 @@ abbrev pub stepOf : Endpoint → ℕ → Call → Outcome
 stepOf e t (act a) = actOf e t a
 stepOf e t (send value) = sendOf e t value
 stepOf e t (deliver f body) = deliverOf e t f body
-stepOf e t show = outcome Done e nothing
+stepOf e t show = outcome Done e (W.value (shownOf e))

@@ -8,7 +8,7 @@ use Rattle.steps.proofs.Outcomes.{quiet-step, loud-step}
 use Rattle.steps.proofs.Whole.{setup-length, reply-writable}
 use Rattle.steps.specs.Calls.{outcome}
 use Rattle.steps.specs.Deliveries.{takeRequest}
-use Rattle.steps.specs.Frames.{nothing, written}
+use Rattle.steps.specs.Frames.{nothing, frame}
 use Rattle.frame.specs.Writing.{isBodyLength}
 use Rattle.steps.proofs.deliver.take_request.Statement.{statement}
 use Rattle.steps.proofs.deliver.take_request.Tie as tie
@@ -66,7 +66,7 @@ returns-2 c =
     let o = takeRequest (a .e) (a .clock) (a .f) (a .body .now) in
     let r = s .request-answer .result in
     let x = l .left-by .result in
-    let q : o ≡ outcome r x (written (f .reply-fields .result) (a .body .now)) = rw (
+    let q : o ≡ outcome r x (frame (f .reply-fields .result) (a .body .now)) = rw (
       f .reply-fields .ensures,
       f .before .is-ended .ensures,
       b .is-busy .ensures,

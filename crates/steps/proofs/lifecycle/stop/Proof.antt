@@ -5,7 +5,7 @@ use Rattle.steps.proofs.Outcomes.{short, quiet, loud}
 use Rattle.steps.proofs.Whole.{disconnect-writable}
 use Rattle.transitions.specs.ByCall.{stoppedOf}
 use Rattle.steps.specs.Calls.{outcome, stopOf}
-use Rattle.steps.specs.Frames.{nothing, written, setupData, disconnectFields}
+use Rattle.steps.specs.Frames.{nothing, frame, setupData, disconnectFields}
 use Rattle.endpoint.specs.declared.Answer.the-variants.{Done}
 use Rattle.frame.specs.declared.Command.the-variants as K
 use Rattle.steps.proofs.lifecycle.stop.Statement.{statement}
@@ -55,7 +55,7 @@ returns-4 c =
     let a = s .before .before .before .args in
     let q : stopOf (a .e) (a .clock)
     ≡ outcome Done (stoppedOf (a .e) (a .clock))
-    (written (disconnectFields (a .e) (a .clock)) (setupData (a .e .settings) K.Disconnect)) =
+    (frame (disconnectFields (a .e) (a .clock)) (setupData (a .e .settings) K.Disconnect)) =
     rw (← s .stop-answer .ensures, ← d .is-dropped .ensures, t .before .if2 .left, t .if3 .left) in
     loud (a .out .now) (a .e) (stopOf (a .e) (a .clock)) (s .before .if1 .left) Done (stoppedOf (a .e) (a .clock))
     (disconnectFields (a .e) (a .clock)) (setupData (a .e .settings) K.Disconnect) q

@@ -8,7 +8,7 @@ use Rattle.steps.proofs.Outcomes.{short, quiet, loud}
 use Rattle.steps.proofs.Whole.{request-writable, refresh-writable, send-width-length}
 use Rattle.transitions.specs.ByCall.{requestedOf, refreshSentOf}
 use Rattle.steps.specs.Calls.{outcome, sendOf}
-use Rattle.steps.specs.Frames.{nothing, written, dueData, sendWidth, requestFields, refreshFields}
+use Rattle.steps.specs.Frames.{nothing, frame, dueData, sendWidth, requestFields, refreshFields}
 use Rattle.endpoint.specs.Answers.{leftBy}
 use Rattle.endpoint.specs.Time.{endedOf}
 use Rattle.endpoint.specs.declared.Answer.the-variants.{Done}
@@ -62,7 +62,7 @@ returns-3 c =
     let a = s .before .before .before .before .args in
     let o = sendOf (a .e) (a .clock) (a .value .now) in
     let x = refreshSentOf (a .e) (a .clock) in
-    let q : o ≡ outcome Done x (written (refreshFields (a .e) (a .clock)) (a .value .now)) =
+    let q : o ≡ outcome Done x (frame (refreshFields (a .e) (a .clock)) (a .value .now)) =
     rw (
       ← s .send-answer .ensures,
       ← d .is-done .ensures,
@@ -97,7 +97,7 @@ returns-4 c =
     let o = sendOf (a .e) (a .clock) (a .value .now) in
     let x = requestedOf (a .e) (a .clock) in
     let b = dueData (a .e) in
-    let q : o ≡ outcome Done x (written (requestFields (a .e) (a .clock)) b) =
+    let q : o ≡ outcome Done x (frame (requestFields (a .e) (a .clock)) b) =
     rw (
       ← s .send-answer .ensures,
       ← d .is-done .ensures,
