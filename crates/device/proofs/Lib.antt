@@ -3,3 +3,4 @@ pub mod Each
 pub mod Finding
 pub mod Ticked
 pub mod OnEntry
+pub mod Numbers

@@ -3,3 +3,4 @@ pub mod Tables
 pub mod Loading
 pub mod Clock
 pub mod Calls
+pub mod Numbers
