@@ -1,6 +1,6 @@
--- A table of 56 entries is right where each entry is, row by row.
-use mathlib.Core.Path.{_≡_}
-use mathlib.Core.List.{List}
+-- The table of states against commands as one list, row by row: what stands at a state's row and a command's column.
+use mathlib.Core.Path.{_≡_, refl}
+use mathlib.Core.List.{List, [], _∷_, _++_}
 use Prim.Native.Nat.{_+_, _*_}
 use lib.ListN.{getD}
 use Rattle.frame.specs.declared.Command.{Command}
@@ -11,33 +11,37 @@ use Rattle.endpoint.specs.declared.State.the-variants.{RefreshPending, R
 use Rattle.endpoint.specs.declared.Next.{Next}
 use Rattle.endpoint.specs.Table.{rowOf, columnOf, nextOf}
 
+abbrev row : State → List Next
+row s =
+    nextOf K.Connect s ∷ nextOf K.ConfirmNetwork s ∷ nextOf K.VerifyStation s ∷ nextOf K.RefreshReady s
+    ∷ nextOf K.RefreshGo s ∷ nextOf K.Refresh s ∷ nextOf K.Disconnect s ∷ []
+
+abbrev pub table : List Next
+table =
+    row Close ++ (row Starting ++ (row EstablishPending ++ (row Establish ++ (row ParamVerify ++ (row RefreshPending
+    ++ (row Refresh ++ row Terminate))))))
+
 -- the entry of a command in a state; z is what a list gives past its end
-abbrev pub Entry : List Next → Next → State → Command → Type 0
-Entry t z s k = getD t (rowOf s * 7 + columnOf k) z ≡ nextOf k s
+abbrev Entry : Next → State → Command → Type 0
+Entry z s k = getD table (rowOf s * 7 + columnOf k) z ≡ nextOf k s
 
-abbrev pub Row : List Next → Next → State → Type 0
-Row t z s =
-    Entry t z s K.Connect × Entry t z s K.ConfirmNetwork × Entry t z s K.VerifyStation × Entry t z s K.RefreshReady
-    × Entry t z s K.RefreshGo × Entry t z s K.Refresh × Entry t z s K.Disconnect
+by-command : (z : Next) (s : State) → Entry z s K.Connect → Entry z s K.ConfirmNetwork → Entry z s K.VerifyStation
+    → Entry z s K.RefreshReady → Entry z s K.RefreshGo → Entry z s K.Refresh → Entry z s K.Disconnect
+    → (k : Command) → Entry z s k
+by-command z s a b c d e f g K.Connect = a
+by-command z s a b c d e f g K.ConfirmNetwork = b
+by-command z s a b c d e f g K.VerifyStation = c
+by-command z s a b c d e f g K.RefreshReady = d
+by-command z s a b c d e f g K.RefreshGo = e
+by-command z s a b c d e f g K.Refresh = f
+by-command z s a b c d e f g K.Disconnect = g
 
-in-row : (t : List Next) (z : Next) (s : State) → Row t z s → (k : Command) → Entry t z s k
-in-row t z s r K.Connect = r .0
-in-row t z s r K.ConfirmNetwork = r .1
-in-row t z s r K.VerifyStation = r .2
-in-row t z s r K.RefreshReady = r .3
-in-row t z s r K.RefreshGo = r .4
-in-row t z s r K.Refresh = r .5
-in-row t z s r K.Disconnect = r .6
-
-pub by-rows : (t : List Next) (z : Next) → Row t z Close → Row t z Starting → Row t z EstablishPending
-    → Row t z Establish
-    → Row t z ParamVerify → Row t z RefreshPending → Row t z Refresh → Row t z Terminate → (s : State) (k : Command)
-    → Entry t z s k
-by-rows t z a b c d e f g h Close = in-row t z Close a
-by-rows t z a b c d e f g h Starting = in-row t z Starting b
-by-rows t z a b c d e f g h EstablishPending = in-row t z EstablishPending c
-by-rows t z a b c d e f g h Establish = in-row t z Establish d
-by-rows t z a b c d e f g h ParamVerify = in-row t z ParamVerify e
-by-rows t z a b c d e f g h RefreshPending = in-row t z RefreshPending f
-by-rows t z a b c d e f g h Refresh = in-row t z Refresh g
-by-rows t z a b c d e f g h Terminate = in-row t z Terminate h
+pub entry : (z : Next) (s : State) (k : Command) → Entry z s k
+entry z Close = by-command z Close refl refl refl refl refl refl refl
+entry z Starting = by-command z Starting refl refl refl refl refl refl refl
+entry z EstablishPending = by-command z EstablishPending refl refl refl refl refl refl refl
+entry z Establish = by-command z Establish refl refl refl refl refl refl refl
+entry z ParamVerify = by-command z ParamVerify refl refl refl refl refl refl refl
+entry z RefreshPending = by-command z RefreshPending refl refl refl refl refl refl refl
+entry z Refresh = by-command z Refresh refl refl refl refl refl refl refl
+entry z Terminate = by-command z Terminate refl refl refl refl refl refl refl
