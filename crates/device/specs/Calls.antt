@@ -11,7 +11,7 @@ use Rattle.frame.specs.declared.Fault.{Fault}
 use Rattle.frame.specs.declared.Fault.the-variants as F
 use Rattle.frame.specs.declared.Reading.{Reading}
 use Rattle.frame.specs.declared.Reading.the-variants.{Frame, Refused}
-use Rattle.frame.specs.Output.{over}
+use Rattle.words.specs.Output.{over}
 use Rattle.frame.specs.Reading.{readingOf}
 use Rattle.endpoint.specs.declared.Endpoint.{Endpoint}
 use Rattle.endpoint.specs.declared.Timestamp.{Timestamp}

@@ -10,10 +10,12 @@ use borrow.Author.Tests.{eq-eqb, ltb-true}
 use Rattle.frame.specs.declared.Command.the-variants as K
 use Rattle.frame.specs.declared.Fields.{Fields}
 use Rattle.frame.specs.Control.{codeOf, is, subconnectionBits}
-use Rattle.frame.specs.Reading.{same}
+use Rattle.words.specs.Bytes.{same}
 use Rattle.frame.specs.Writing.{frameBytes}
-use Rattle.frame.specs.RoundTrip.{Bytes, none, more, Writable}
-use Rattle.frame.proofs.Alike.{and-left, and-right, both, same-refl, same-eq}
+use Rattle.words.specs.Bytes.{Bytes, none, more}
+use Rattle.frame.specs.RoundTrip.{Writable}
+use mathlib.Mathlib.Data.Bool.Basic.{and-elim-left as and-left, and-elim-right as and-right, and-intro as both}
+use Rattle.words.proofs.Alike.{same-refl, same-eq}
 use Rattle.frame.proofs.ReadBack.{round-trip}
 use Rattle.link.specs.Runs as L
 use Rattle.link.proofs.Entries.{fields-eq}

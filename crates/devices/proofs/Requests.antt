@@ -9,7 +9,7 @@ use lib.ListN.{length}
 use lib.Seq.{slice}
 use borrow.Author.Tests.{eqb-true, eqb-false}
 use Rattle.frame.specs.Reading.{readingOf}
-use Rattle.frame.proofs.Alike.{and-left, and-right}
+use mathlib.Mathlib.Data.Bool.Basic.{and-elim-left as and-left, and-elim-right as and-right}
 use Rattle.frame.proofs.ReadBack.{round-trip}
 use Rattle.endpoint.specs.declared.Settings.{Settings}
 use Rattle.endpoint.specs.declared.Endpoint.{Endpoint}

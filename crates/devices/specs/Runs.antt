@@ -10,7 +10,8 @@ use Rattle.frame.specs.declared.Command.the-variants as K
 use Rattle.frame.specs.declared.Reading.{Reading}
 use Rattle.frame.specs.declared.Reading.the-variants.{Frame, Refused}
 use Rattle.frame.specs.Control.{is}
-use Rattle.frame.specs.Reading.{same, readingOf}
+use Rattle.words.specs.Bytes.{same}
+use Rattle.frame.specs.Reading.{readingOf}
 use Rattle.frame.specs.Writing.{frameBytes}
 use Rattle.endpoint.specs.Answers.{isDone}
 use Rattle.device.specs.declared.Device.{Device}

@@ -1,30 +1,30 @@
 -- An accepted list of bytes is what writing its fields gives, and its fields can be written.
 use mathlib.Core.Path.{_≡_, refl, sym, ap, ap₂, _∙_, subst}
 use mathlib.Core.Bool.{Bool, true, false, not, cond}
-use mathlib.Core.List.{List, [], _∷_, _++_}
+use mathlib.Core.List.{List, _++_}
+use mathlib.Mathlib.Data.Bool.Basic.{and-elim-left, and-elim-right, and-intro}
 use Prim.Native.Nat.{ℕ, zero, suc, _+_, _-_, _/_, _%_, _^_, _≤_, _<_}
-use native.Mathlib.Numerals.{add-one, add-two, add-three}
 use native.Mathlib.Omega.{arith}
 use lib.Dec.{eqb, lit<}
 use lib.ListN.{length, getD, take, drop, length-drop, take-append-drop}
 use lib.Seq.{slice, take-add, take-take, drop-drop, drop-cons, take-all, length-take-le}
 use borrow.Author.Tests.{eqb-true, eq-eqb, le-leb, lt-ltb}
-use Rattle.crc.specs.Bytes.{Bytes, none, more}
+use Rattle.words.specs.Bytes.{Bytes, same}
+use Rattle.words.specs.Words.{wordAt, wordBytes}
+use Rattle.words.proofs.Alike.{same-eq}
+use Rattle.words.proofs.Words.{take-bytes, drop-bytes, word-back, word-lt}
 use Rattle.crc.specs.Crc.{crc}
 use Rattle.frame.specs.declared.Fields.{Fields}
 use Rattle.frame.specs.declared.Fault.{Fault}
 use Rattle.frame.specs.declared.Fault.the-variants.{Length, Copies, CheckWord, Form}
 use Rattle.frame.specs.declared.Reading.{Reading}
 use Rattle.frame.specs.declared.Reading.the-variants.{Frame, Refused}
-use Rattle.frame.specs.Words.{wordAt, wordBytes}
 use Rattle.frame.specs.Control.{bit, subconnectionOf, controlOf, hasForm}
-use Rattle.frame.specs.Reading.{isFrameLength, same, hasCheckWord, fieldsIn, isFormed, readingOfCopies, readingOf}
+use Rattle.frame.specs.Reading.{isFrameLength, hasCheckWord, fieldsIn, isFormed, readingOfCopies, readingOf}
 use Rattle.frame.specs.Writing.{timeOf, carryOf, headBytes, withCheckWord, twice, subBytes, frameBytes}
 use Rattle.frame.specs.Writing.{isWritable}
 use Rattle.frame.specs.RoundTrip.{SubconnectionFits, Writable}
-use Rattle.frame.proofs.Alike.{and-left, and-right, both, same-eq}
 use Rattle.frame.proofs.Lengths.{frame-length, slice-from}
-use Rattle.frame.proofs.Digits.{word-of}
 
 -- ---- what an accepted reading says: a refusal is no frame, so every test has passed
 module _ (f : Fields) (start end : ℕ) where
@@ -62,48 +62,12 @@ within s f start end h =
     let l : length (take n s) ≡ n = length-take-le n s (omega arith) in
     (omega (arith, q .starts, q .ends), omega (arith, q .ends))
 
--- ---- bytes
-byte-at : {s : List ℕ} → Bytes s → (k : ℕ) → getD s k 0 < 256
-byte-at none k = lit< tt
-byte-at (more h r) zero = h
-byte-at (more h r) (suc k) = byte-at r k
-
-take-bytes : {s : List ℕ} (n : ℕ) → Bytes s → Bytes (take n s)
-take-bytes zero r = none
-take-bytes (suc n) none = none
-take-bytes (suc n) (more h r) = more h (take-bytes n r)
-
-drop-bytes : {s : List ℕ} (n : ℕ) → Bytes s → Bytes (drop n s)
-drop-bytes zero r = r
-drop-bytes (suc n) none = none
-drop-bytes (suc n) (more h r) = drop-bytes n r
-
 -- ---- a SubPDU of bytes, put together again from its words and its body
 subconnection-fits : (b : Bool) (v : ℕ) → SubconnectionFits (subconnectionOf b (v % 65536))
 subconnection-fits true v = omega arith
 subconnection-fits false v = tt
 
 module _ (a : List ℕ) (r : Bytes a) where
-  four : (k : ℕ) → k + 4 ≤ length a
-      → take 4 (drop k a) ≡ (getD a k 0 ∷ getD a (k + 1) 0 ∷ getD a (k + 2) 0 ∷ getD a (k + 3) 0 ∷ [])
-  four k h =
-      rw (add-one, add-two, add-three)
-      (rw (
-        drop-cons a k 0 (omega arith),
-        drop-cons a (suc k) 0 (omega arith),
-        drop-cons a (suc (suc k)) 0 (omega arith),
-        drop-cons a (suc (suc (suc k))) 0 (omega arith),
-      ) refl)
-
-  word-back : (k : ℕ) → k + 4 ≤ length a → wordBytes (wordAt a k) ≡ take 4 (drop k a)
-  word-back k h =
-      word-of (getD a k 0) (getD a (k + 1) 0) (getD a (k + 2) 0) (getD a (k + 3) 0)
-      (byte-at r (k + 1)) (byte-at r (k + 2)) (byte-at r (k + 3))
-      ∙ sym (four k h)
-
-  word-lt : (k : ℕ) → wordAt a k < 2 ^ 32
-  word-lt k = omega (arith, byte-at r k, byte-at r (k + 1), byte-at r (k + 2), byte-at r (k + 3))
-
   rebuilt : (m : ℕ)
       → take 4 a ++ (take 4 (drop 4 a) ++
       (take 4 (drop 8 a) ++ (take 4 (drop 12 a) ++ (take 4 (drop 16 a) ++ take m (drop 20 a)))))
@@ -113,23 +77,23 @@ module _ (a : List ℕ) (r : Bytes a) where
   module _ (long : 28 ≤ length a) (c : hasCheckWord a ≡ true)
       (g : isFormed (wordAt a 0) (wordAt a 16) (fieldsIn a) ≡ true) where
     control-back : controlOf (fieldsIn a) ≡ wordAt a 0
-    control-back = sym (eqb-true _ _ (and-left (eqb (wordAt a 0) (controlOf (fieldsIn a))) _ g))
+    control-back = sym (eqb-true _ _ (and-elim-left (eqb (wordAt a 0) (controlOf (fieldsIn a))) _ g))
 
     pub form : hasForm (fieldsIn a) ≡ true
-    form = and-left (hasForm (fieldsIn a)) _ (and-right (eqb (wordAt a 0) (controlOf (fieldsIn a))) _ g)
+    form = and-elim-left (hasForm (fieldsIn a)) _ (and-elim-right (eqb (wordAt a 0) (controlOf (fieldsIn a))) _ g)
 
     reserved-zero : wordAt a 16 ≡ 0
     reserved-zero =
         eqb-true (wordAt a 16) 0
-        (and-right (hasForm (fieldsIn a)) _ (and-right (eqb (wordAt a 0) (controlOf (fieldsIn a))) _ g))
+        (and-elim-right (hasForm (fieldsIn a)) _ (and-elim-right (eqb (wordAt a 0) (controlOf (fieldsIn a))) _ g))
 
     pub typed : (fieldsIn a .connection < 2 ^ 32) × (fieldsIn a .baseline < 65536) × (fieldsIn a .timestamp < 2 ^ 48)
         × SubconnectionFits (fieldsIn a .subconnection)
     unfolding fieldsIn
     typed = (
-      word-lt 4,
+      word-lt a r 4,
       omega arith,
-      omega (arith, word-lt 8, word-lt 12),
+      omega (arith, word-lt a r 8, word-lt a r 12),
       subconnection-fits (bit 16 (wordAt a 0)) (wordAt a 0),
     )
 
@@ -141,17 +105,17 @@ module _ (a : List ℕ) (r : Bytes a) where
         ≡ headBytes (wordAt a 0) (wordAt a 4) (wordAt a 8) (wordAt a 12) body
     unfolding fieldsIn body
     same-words =
-        let t : timeOf (fieldsIn a) ≡ wordAt a 8 = omega (arith, word-lt 8) in
-        let u : carryOf (fieldsIn a) ≡ wordAt a 12 = omega (arith, word-lt 8) in
+        let t : timeOf (fieldsIn a) ≡ wordAt a 8 = omega (arith, word-lt a r 8) in
+        let u : carryOf (fieldsIn a) ≡ wordAt a 12 = omega (arith, word-lt a r 8) in
         λ i. headBytes (control-back i) (wordAt a 4) (t i) (u i) (take (length a - 24) (drop 20 a))
 
     words-back : headBytes (wordAt a 0) (wordAt a 4) (wordAt a 8) (wordAt a 12) body ≡ take (length a - 4) a
     unfolding headBytes body
     words-back =
-        let z : wordBytes 0 ≡ take 4 (drop 16 a) = ap wordBytes (sym reserved-zero) ∙ word-back 16 (omega arith) in
+        let z : wordBytes 0 ≡ take 4 (drop 16 a) = ap wordBytes (sym reserved-zero) ∙ word-back a r 16 (omega arith) in
         let n : 4 + (4 + (4 + (4 + (4 + (length a - 24))))) ≡ length a - 4 = omega arith in
-        (λ i. word-back 0 (omega arith) i ++ (word-back 4 (omega arith) i ++ (word-back 8 (omega arith) i
-        ++ (word-back 12 (omega arith) i ++ (z i ++ take (length a - 24) (drop 20 a))))))
+        (λ i. word-back a r 0 (omega arith) i ++ (word-back a r 4 (omega arith) i ++ (word-back a r 8 (omega arith) i
+        ++ (word-back a r 12 (omega arith) i ++ (z i ++ take (length a - 24) (drop 20 a))))))
         ∙ rebuilt (length a - 24) ∙ ap (λ (k : ℕ). take k a) n
 
     pub sub-back : subBytes (fieldsIn a) (take (length a - 24) (drop 20 a)) ≡ a
@@ -162,7 +126,7 @@ module _ (a : List ℕ) (r : Bytes a) where
         (λ i. e i ++ wordBytes (crc (e i)))
         ∙ ap (λ (v : ℕ). take k a ++ wordBytes v) (eqb-true _ _ c)
         ∙ ap (λ (l : List ℕ). take k a ++ l)
-        (word-back k (omega arith) ∙ take-all 4 (drop k a) (rw length-drop (omega arith)))
+        (word-back a r k (omega arith) ∙ take-all 4 (drop k a) (rw length-drop (omega arith)))
         ∙ take-append-drop k a
 
 -- ---- both copies
@@ -202,9 +166,9 @@ module _ (s : List ℕ) (r : Bytes s) where
           subconnection = t .3;
           bytes = take-bytes (length a - 24) (drop-bytes 20 (take-bytes n r));
         };
-        formed = both (form a (take-bytes n r) long (q .checked) (q .formed))
-            (both (lt-ltb _ _ (t .2)) (both (le-leb 4 (length b) (omega arith))
-            (both (le-leb (length b) 100 (omega arith)) (eq-eqb (length b % 4) 0 (omega arith)))));
+        formed = and-intro (form a (take-bytes n r) long (q .checked) (q .formed))
+            (and-intro (lt-ltb _ _ (t .2)) (and-intro (le-leb 4 (length b) (omega arith))
+            (and-intro (le-leb (length b) 100 (omega arith)) (eq-eqb (length b % 4) 0 (omega arith)))));
       } in
       let k : b ≡ slice start end s =
       body-of n (omega arith) (omega arith) ∙ sym (λ i. slice (q .starts i) (q .ends i) s) in

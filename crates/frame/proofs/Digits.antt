@@ -1,7 +1,6 @@
--- Words and the CTRL word, taken apart and put together again.
+-- The CTRL word taken apart and put together again.
 use mathlib.Core.Path.{_≡_, refl, ap, ap₂, _∙_}
 use mathlib.Core.Bool.{Bool, true, false}
-use mathlib.Core.List.{[], _∷_}
 use Prim.Native.Nat.{ℕ, _+_, _*_, _/_, _%_, _^_, _≤_, _<_}
 use native.Mathlib.Omega.{arith}
 use lib.Arith.{digits-mod}
@@ -13,24 +12,10 @@ use Rattle.frame.specs.declared.Command.the-variants.{RefreshReady, Refr
 use Rattle.frame.specs.declared.Subconnection.{Subconnection}
 use Rattle.frame.specs.declared.Subconnection.the-variants.{Absent, Number}
 use Rattle.frame.specs.declared.Fields.{Fields}
-use Rattle.frame.specs.Words.{wordOf, wordBytes}
 use Rattle.frame.specs.Control.{codeOf, commandOf, subconnectionBits, subconnectionOf, bit, flag, controlOf}
 use Rattle.frame.specs.Reading.{fieldsOf}
 use Rattle.frame.specs.Writing.{timeOf, carryOf}
 use Rattle.frame.specs.RoundTrip.{SubconnectionFits}
-
--- ---- words
-pub of-word : (v : ℕ) → wordOf (v / 16777216) (v / 65536 % 256) (v / 256 % 256) (v % 256) ≡ v
-of-word v = omega arith
-
-pub word-of : (a b c d : ℕ) → b < 256 → c < 256 → d < 256 → wordBytes (wordOf a b c d) ≡ (a ∷ b ∷ c ∷ d ∷ [])
-word-of a b c d hb hc hd =
-    let v : ℕ = wordOf a b c d in
-    let e₁ : v / 16777216 ≡ a = omega arith in
-    let e₂ : v / 65536 % 256 ≡ b = omega arith in
-    let e₃ : v / 256 % 256 ≡ c = omega arith in
-    let e₄ : v % 256 ≡ d = omega arith in
-    cc
 
 -- ---- commands
 code-le : (k : Command) → codeOf k ≤ 255

@@ -1,22 +1,21 @@
--- Lengths as numbers: of a frame, of a body, of what is written; the rest of a slice.
+-- Lengths as numbers: of a frame, of a body, of what is written; a part of a list.
 use mathlib.Core.Path.{_≡_, ap, _∙_}
 use mathlib.Core.Bool.{true}
 use mathlib.Core.List.{List}
-use Prim.Native.Nat.{ℕ, _+_, _-_, _*_, _%_, _^_, _≤_, _<_}
-use native.Mathlib.Nat.{le-refl}
+use mathlib.Mathlib.Data.Bool.Basic.{and-elim-left, and-elim-right}
+use Prim.Native.Nat.{ℕ, _+_, _*_, _%_, _^_, _≤_, _<_}
 use native.Mathlib.Omega.{arith}
 use lib.Dec.{leb, ltb}
-use lib.ListN.{length, take, drop, length-drop, length-append}
-use lib.Seq.{slice, take-all, take-add, drop-at, length-take-le}
+use lib.ListN.{length, take, drop, length-append}
+use lib.Seq.{slice, take-add, drop-at, length-take-le}
 use borrow.Author.Tests.{leb-true, ltb-true, eqb-true}
+use Rattle.words.specs.Words.{wordBytes}
 use Rattle.crc.specs.Crc.{crc}
 use Rattle.frame.specs.declared.Fields.{Fields}
-use Rattle.frame.specs.Words.{wordBytes}
 use Rattle.frame.specs.Control.{hasForm, controlOf}
 use Rattle.frame.specs.Reading.{isFrameLength}
 use Rattle.frame.specs.Writing.{timeOf, carryOf, headBytes, withCheckWord, twice, subBytes, frameBytes}
 use Rattle.frame.specs.Writing.{isWritable}
-use Rattle.frame.proofs.Alike.{and-left, and-right}
 
 pub record FrameLength (n : ℕ) : Type 0 where
   pub least : 56 ≤ n
@@ -25,11 +24,11 @@ pub record FrameLength (n : ℕ) : Type 0 where
 
 pub frame-length : (n : ℕ) → isFrameLength n ≡ true → FrameLength n
 frame-length n h =
-    let m = and-right (leb 56 n) _ h in
+    let m = and-elim-right (leb 56 n) _ h in
     record {
-      least = leb-true 56 n (and-left (leb 56 n) _ h);
-      most = leb-true n 248 (and-left (leb n 248) _ m);
-      words = eqb-true (n % 8) 0 (and-right (leb n 248) _ m);
+      least = leb-true 56 n (and-elim-left (leb 56 n) _ h);
+      most = leb-true n 248 (and-elim-left (leb n 248) _ m);
+      words = eqb-true (n % 8) 0 (and-elim-right (leb n 248) _ m);
     }
 
 -- ---- what can be written
@@ -43,15 +42,15 @@ pub record CanBeWritten (f : Fields) (n : ℕ) : Type 0 where
 pub can-be-written : (f : Fields) (n : ℕ) → isWritable f n ≡ true → CanBeWritten f n
 unfolding isWritable
 can-be-written f n h =
-    let t = and-right (hasForm f) _ h in
-    let l = and-right (ltb (f .timestamp) (2 ^ 48)) _ t in
-    let m = and-right (leb 4 n) _ l in
+    let t = and-elim-right (hasForm f) _ h in
+    let l = and-elim-right (ltb (f .timestamp) (2 ^ 48)) _ t in
+    let m = and-elim-right (leb 4 n) _ l in
     record {
-      form = and-left (hasForm f) _ h;
-      timestamp = ltb-true (f .timestamp) (2 ^ 48) (and-left (ltb (f .timestamp) (2 ^ 48)) _ t);
-      least = leb-true 4 n (and-left (leb 4 n) _ l);
-      most = leb-true n 100 (and-left (leb n 100) _ m);
-      words = eqb-true (n % 4) 0 (and-right (leb n 100) _ m);
+      form = and-elim-left (hasForm f) _ h;
+      timestamp = ltb-true (f .timestamp) (2 ^ 48) (and-elim-left (ltb (f .timestamp) (2 ^ 48)) _ t);
+      least = leb-true 4 n (and-elim-left (leb 4 n) _ l);
+      most = leb-true n 100 (and-elim-left (leb n 100) _ m);
+      words = eqb-true (n % 4) 0 (and-elim-right (leb n 100) _ m);
     }
 
 -- ---- what is written
@@ -74,7 +73,3 @@ length-frame f body = length-append (subBytes f body) (subBytes f body) ∙ omeg
 -- ---- parts of a list
 pub slice-from : (k m : ℕ) (l : List ℕ) → k ≤ length l → slice k (k + m) l ≡ take m (drop k l)
 slice-from k m l h = ap (drop k) (take-add k m l) ∙ drop-at (take k l) (take m (drop k l)) k (length-take-le k l h)
-
--- `&s[h..]` is what is left
-pub tail : (h : ℕ) (s : List ℕ) → take (length s - h) (drop h s) ≡ drop h s
-tail h s = take-all (length s - h) (drop h s) (rw length-drop (le-refl _))

@@ -1,5 +1,4 @@
 -- Laws that serve several functions, and the round trip.
-pub mod Alike
 pub mod Lengths
 pub mod Put
 pub mod Written

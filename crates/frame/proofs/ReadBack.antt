@@ -2,18 +2,18 @@
 use mathlib.Core.Path.{_≡_, refl, sym, ap, _∙_}
 use mathlib.Core.Bool.{Bool, true, false, _&&_}
 use mathlib.Core.List.{List, _++_}
+use mathlib.Mathlib.Data.Bool.Basic.{and-elim-left}
 use Prim.Native.Nat.{ℕ, _+_, _*_, _<_}
 use native.Mathlib.Omega.{arith}
 use lib.Dec.{leb}
 use lib.ListN.{length, take, drop}
 use lib.Seq.{slice, take-at, take-append-le}
+use Rattle.words.specs.Output.{over}
 use Rattle.frame.specs.declared.Fields.{Fields}
 use Rattle.frame.specs.declared.Reading.the-variants.{Frame}
 use Rattle.frame.specs.Reading.{readingOf}
-use Rattle.frame.specs.Output.{over}
 use Rattle.frame.specs.Writing.{frameBytes, isWritable, writtenOf, WriteSays}
 use Rattle.frame.specs.RoundTrip.{Typed, Writable, RoundTrip}
-use Rattle.frame.proofs.Alike.{and-left}
 use Rattle.frame.proofs.Lengths.{length-frame}
 use Rattle.frame.proofs.There.{reads, body-lies}
 use Rattle.frame.proofs.Back.{within, back}
@@ -42,7 +42,7 @@ module _ (f : Fields) (body out out′ : List ℕ) (count : ℕ) (t : Typed f bo
 
   writable : Writable f body
   unfolding test
-  writable = record { typed = t; formed = and-left (isWritable f (length body)) _ (passed test refl) }
+  writable = record { typed = t; formed = and-elim-left (isWritable f (length body)) _ (passed test refl) }
 
   is-frame : writtenOf f body (length out) ≡ frameBytes f body
   unfolding test writtenOf

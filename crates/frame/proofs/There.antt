@@ -1,34 +1,27 @@
 -- A written frame has no fault and reads back as its fields, its body where the reading says.
 use mathlib.Core.Path.{_≡_, refl, sym, ap, _∙_}
 use mathlib.Core.Bool.{true, not, cond}
-use mathlib.Core.List.{List, [], _∷_, _++_, append-assoc}
+use mathlib.Core.List.{List, _++_, append-assoc}
+use mathlib.Mathlib.Data.Bool.Basic.{and-intro}
 use Prim.Native.Nat.{ℕ, _+_, _-_, _/_, _%_}
 use native.Mathlib.Omega.{arith}
 use lib.ListN.{length, take, drop, length-append}
-use lib.Seq.{slice, take-at, drop-at, getD-append-add, getD-append-seam}
+use lib.Seq.{slice, take-at, drop-at}
 use borrow.Author.Tests.{eq-eqb, le-leb}
+use Rattle.words.specs.Words.{wordAt, wordBytes}
+use Rattle.words.proofs.Alike.{same-refl}
+use Rattle.words.proofs.Words.{of-word, word-end}
 use Rattle.crc.specs.Crc.{crc}
 use Rattle.frame.specs.declared.Fields.{Fields}
 use Rattle.frame.specs.declared.Fault.the-variants.{Length, Copies, CheckWord, Form}
 use Rattle.frame.specs.declared.Reading.the-variants.{Frame, Refused}
-use Rattle.frame.specs.Words.{wordOf, wordAt, wordBytes}
 use Rattle.frame.specs.Control.{controlOf}
 use Rattle.frame.specs.Reading.{isFrameLength, hasCheckWord, fieldsOf, fieldsIn, isFormed, readingOfCopies}
 use Rattle.frame.specs.Reading.{readingOf}
 use Rattle.frame.specs.Writing.{timeOf, carryOf, headBytes, withCheckWord, twice, subBytes, frameBytes}
 use Rattle.frame.specs.RoundTrip.{Writable}
-use Rattle.frame.proofs.Alike.{both, same-refl}
 use Rattle.frame.proofs.Lengths.{CanBeWritten, can-be-written, length-sub, length-frame, slice-from}
-use Rattle.frame.proofs.Digits.{of-word, fields-of-words}
-
--- the word at the end
-word-end : (s : List ℕ) (v n : ℕ) → n ≡ length s → wordAt (s ++ wordBytes v) n ≡ v
-word-end s v n e =
-    ap (wordAt (s ++ wordBytes v)) e
-    ∙ (λ i. wordOf (getD-append-seam s (v / 16777216) (v / 65536 % 256 ∷ (v / 256 % 256 ∷ (v % 256 ∷ []))) 0 i)
-    (getD-append-add s (wordBytes v) 1 0 i) (getD-append-add s (wordBytes v) 2 0 i)
-    (getD-append-add s (wordBytes v) 3 0 i))
-    ∙ of-word v
+use Rattle.frame.proofs.Digits.{fields-of-words}
 
 front-of : (b x y : List ℕ) → take (length b) ((b ++ x) ++ y) ≡ b
 front-of b x y = rw append-assoc (take-at b (x ++ y) (length b) refl)
@@ -74,7 +67,7 @@ module _ (f : Fields) (body : List ℕ) (w : Writable f body) where
 
   formed : isFormed (wordAt sub 0) (wordAt sub 16) (fieldsIn sub) ≡ true
   formed = (λ i. isFormed (w0 i) (w16 i) (fields i))
-      ∙ both (eq-eqb (controlOf f) (controlOf f) refl) (both (can .form) refl)
+      ∙ and-intro (eq-eqb (controlOf f) (controlOf f) refl) (and-intro (can .form) refl)
 
   checked : hasCheckWord sub ≡ true
   unfolding sub subBytes
@@ -104,7 +97,7 @@ module _ (f : Fields) (body : List ℕ) (w : Writable f body) where
       let n : ℕ = length (frameBytes f body) in
       let l = length-frame f body in
       let c = can in
-      both (le-leb 56 n (omega arith)) (both (le-leb n 248 (omega arith)) (eq-eqb (n % 8) 0 (omega arith)))
+      and-intro (le-leb 56 n (omega arith)) (and-intro (le-leb n 248 (omega arith)) (eq-eqb (n % 8) 0 (omega arith)))
 
   pub reads : readingOf (frameBytes f body) ≡ Frame f 20 (20 + length body)
   unfolding readingOf

@@ -5,11 +5,11 @@ use mathlib.Core.List.{List}
 use Prim.Native.Nat.{ℕ, _+_, _*_}
 use lib.Dec.{leb}
 use lib.ListN.{length}
+use Rattle.words.specs.Output.{put, over}
+use Rattle.words.proofs.Put.{put-over}
 use Rattle.frame.specs.declared.Fields.{Fields}
-use Rattle.frame.specs.Output.{put, over}
 use Rattle.frame.specs.Writing.{frameBytes, isWritable, writtenOf, WriteSays}
 use Rattle.frame.proofs.Lengths.{length-frame}
-use Rattle.frame.proofs.Put.{put-over}
 
 module _ (f : Fields) (body out : List ℕ) where
   pub nothing : (isWritable f (length body) && leb (48 + 2 * length body) (length out)) ≡ false

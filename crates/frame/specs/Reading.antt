@@ -1,27 +1,22 @@
 -- Reading a frame (document 01, "The frame"; numbers 4 to 7).
-use mathlib.Core.Bool.{Bool, true, false, _&&_, not, cond}
-use mathlib.Core.List.{List, [], _∷_}
+use mathlib.Core.Bool.{Bool, _&&_, not, cond}
+use mathlib.Core.List.{List}
 use Prim.Native.Nat.{ℕ, _+_, _-_, _*_, _/_, _%_}
 use lib.Dec.{eqb, leb}
 use lib.ListN.{length, take, drop}
+use Rattle.words.specs.Bytes.{same}
+use Rattle.words.specs.Words.{wordAt}
 use Rattle.crc.specs.Crc.{crc}
 use Rattle.frame.specs.declared.Fields.{Fields}
 use Rattle.frame.specs.declared.Fault.{Fault}
 use Rattle.frame.specs.declared.Fault.the-variants.{Length, Copies, CheckWord, Form}
 use Rattle.frame.specs.declared.Reading.{Reading}
 use Rattle.frame.specs.declared.Reading.the-variants.{Frame, Refused}
-use Rattle.frame.specs.Words.{wordAt}
 use Rattle.frame.specs.Control.{bit, commandOf, subconnectionOf, controlOf, hasForm}
 
 -- 56, 64, .. 248
 abbrev pub isFrameLength : ℕ → Bool
 isFrameLength n = leb 56 n && (leb n 248 && eqb (n % 8) 0)
-
-abbrev pub same : List ℕ → List ℕ → Bool
-same [] [] = true
-same [] (y ∷ ys) = false
-same (x ∷ xs) [] = false
-same (x ∷ xs) (y ∷ ys) = eqb x y && same xs ys
 
 -- the last word of a SubPDU is the check word of the bytes before it
 unfoldable pub hasCheckWord : List ℕ → Bool

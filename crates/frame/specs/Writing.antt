@@ -5,10 +5,10 @@ use mathlib.Core.List.{List, [], _++_}
 use Prim.Native.Nat.{ℕ, _+_, _*_, _/_, _%_, _^_}
 use lib.Dec.{eqb, leb, ltb}
 use lib.ListN.{length}
+use Rattle.words.specs.Words.{wordBytes}
+use Rattle.words.specs.Output.{over}
 use Rattle.crc.specs.Crc.{crc}
 use Rattle.frame.specs.declared.Fields.{Fields}
-use Rattle.frame.specs.Words.{wordBytes}
-use Rattle.frame.specs.Output.{over}
 use Rattle.frame.specs.Control.{controlOf, hasForm}
 
 -- T code, the upper half, and OBL

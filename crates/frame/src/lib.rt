@@ -3,7 +3,6 @@
 
 pub mod control;
 pub mod read;
-mod words;
 pub mod write;
 
 // The longest frame in bytes, and so the least output that is lent where a frame may be written.

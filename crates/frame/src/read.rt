@@ -2,7 +2,7 @@
 ghost use mathlib.Core.Path.{_≡_};
 ghost use Prim.Native.Nat.{_≤_};
 ghost use lib.ListN.{length};
-ghost use Rattle.frame.specs.Reading.{isFrameLength, same, hasCheckWord, fieldsOf, fieldsIn, isFormed};
+ghost use Rattle.frame.specs.Reading.{isFrameLength, hasCheckWord, fieldsOf, fieldsIn, isFormed};
 ghost use Rattle.frame.specs.Reading.{readingOfCopies, readingOf, faultNumber, numberOf};
 use super::Fault;
 use super::Fields;
@@ -12,28 +12,13 @@ use super::control::command_of;
 use super::control::control_of;
 use super::control::has_form;
 use super::control::subconnection_of;
-use super::words::word_at;
+use words::same;
+use words::word_at;
 
 fn is_frame_length(n: usize) -> bool
     ensures { λ r. ⌜ r ≡ isFrameLength n ⌝ }
 {
     (56 <= n) & ((n <= LONGEST_FRAME) & (n % 8 == 0))
-}
-
-// Whether two slices hold the same bytes.
-pub fn same(a: &[u8], b: &[u8]) -> bool
-    ensures { λ r. ⌜ r ≡ same (now (a .entry)) (now (b .entry)) ⌝ }
-{
-    if a.len() != b.len() {
-        return false;
-    }
-    let mut alike = true;
-    let mut i = 0;
-    while i < a.len() {
-        alike = alike & (a[i] == b[i]);
-        i += 1;
-    }
-    alike
 }
 
 fn has_check_word(a: &[u8]) -> bool
@@ -64,7 +49,6 @@ fn fields_of(control: u32, cid: u32, time: u32, cc: u32) -> Fields
 
 // The fields of a SubPDU.
 fn fields_in(a: &[u8]) -> Fields
-    requires { ⌜ 20 ≤ length (now a) ⌝ }
     ensures { λ r. ⌜ r ≡ fieldsIn (now (a .entry)) ⌝ }
 {
     fields_of(word_at(a, 0), word_at(a, 4), word_at(a, 8), word_at(a, 12))
@@ -78,7 +62,7 @@ fn is_formed(control: u32, reserved: u32, f: Fields) -> bool
 
 // What two halves of one length hold.
 fn read_copies(a: &[u8], b: &[u8]) -> Reading
-    requires { ⌜ 20 ≤ length (now a) ⌝ }
+    requires { ⌜ 4 ≤ length (now a) ⌝ }
     ensures { λ r. ⌜ r ≡ readingOfCopies (now (a .entry)) (now (b .entry)) ⌝ }
 {
     if !same(a, b) {

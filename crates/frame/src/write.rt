@@ -2,14 +2,14 @@
 ghost use mathlib.Core.Path.{_≡_};
 ghost use Prim.Native.Nat.{_+_, _*_, _≤_};
 ghost use lib.ListN.{length};
-ghost use Rattle.frame.specs.Output.{put};
+ghost use Rattle.words.specs.Output.{put};
 ghost use Rattle.frame.specs.Writing.{isBodyLength, isWritable, headBytes, withCheckWord, twice, WriteSays};
 use super::Fields;
 use super::TIMESTAMP_MODULUS;
 use super::control::control_of;
 use super::control::has_form;
-use super::words::put_bytes;
-use super::words::put_word;
+use bytes::copy;
+use words::put_word;
 
 fn is_body_length(n: usize) -> bool
     ensures { λ r. ⌜ r ≡ isBodyLength n ⌝ }
@@ -34,7 +34,8 @@ fn put_head(out: &mut [u8], k: usize, control: u32, cid: u32, time: u32, cc: u32
     put_word(out, k + 8, time);
     put_word(out, k + 12, cc);
     put_word(out, k + 16, 0);
-    put_bytes(out, k + 20, body);
+    let start = k + 20;
+    copy(body, &mut out[start..]);
 }
 
 // Both SubPDUs over the front of out.

@@ -16,8 +16,9 @@ use Rattle.frame.specs.declared.Subconnection.{Subconnection}
 use Rattle.frame.specs.declared.Subconnection.the-variants.{Absent, Number}
 use Rattle.frame.specs.declared.Fields.{Fields}
 use Rattle.frame.specs.Control.{codeOf, commandOf, is, subconnectionBits}
-use Rattle.frame.specs.Reading.{same}
-use Rattle.frame.proofs.Alike.{and-left, and-right, same-eq}
+use Rattle.words.specs.Bytes.{same}
+use mathlib.Mathlib.Data.Bool.Basic.{and-elim-left as and-left, and-elim-right as and-right}
+use Rattle.words.proofs.Alike.{same-eq}
 use Rattle.frame.proofs.Digits.{command-of-code}
 use Rattle.link.specs.Runs.{Entry, noEntry, entryAt, sameFields, lastFrom, lastOf}
 use Rattle.link.proofs.Marks.{Mark, mark, size, at, snoc}

@@ -8,7 +8,7 @@ use Prim.Native.Nat.{ℕ, suc, _+_, _-_, _≤_}
 use native.Mathlib.Omega.{arith}
 use lib.ListN.{length}
 use borrow.Author.Tests.{leb-true, not-true}
-use Rattle.frame.proofs.Alike.{and-left}
+use mathlib.Mathlib.Data.Bool.Basic.{and-elim-left as and-left}
 use Rattle.frame.specs.declared.Command.the-variants as K′
 use Rattle.frame.specs.declared.Fields.{Fields}
 use Rattle.frame.specs.Control.{is}

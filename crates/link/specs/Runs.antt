@@ -9,7 +9,7 @@ use lib.ListN.{length, getD}
 use Rattle.frame.specs.declared.Command.the-variants as K
 use Rattle.frame.specs.declared.Fields.{Fields}
 use Rattle.frame.specs.Control.{is, subconnectionBits}
-use Rattle.frame.specs.Reading.{same}
+use Rattle.words.specs.Bytes.{same}
 use Rattle.endpoint.specs.declared.Settings.{Settings}
 use Rattle.endpoint.specs.declared.Endpoint.{Endpoint}
 use Rattle.endpoint.specs.declared.Reason.the-variants as R

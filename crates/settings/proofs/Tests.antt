@@ -6,7 +6,7 @@ use Prim.Native.Nat.{ℕ, _%_, _≤_}
 use lib.Dec.{eqb, leb}
 use lib.ListN.{length}
 use borrow.Author.Tests.{leb-true}
-use Rattle.frame.proofs.Alike.{and-left, and-right}
+use mathlib.Mathlib.Data.Bool.Basic.{and-elim-left as and-left, and-elim-right as and-right}
 use Rattle.settings.specs.Lists.{countOf, isList}
 
 pub three-no : (a b c d : Bool) → not (a && (b && c)) ≡ true → (a && (b && (c && d))) ≡ false

@@ -9,7 +9,7 @@ use Rattle.frame.specs.declared.Command.the-variants as K
 use Rattle.frame.specs.declared.Fields.{Fields}
 use Rattle.frame.specs.Control.{is}
 use Rattle.frame.specs.Writing.{isBodyLength}
-use Rattle.frame.proofs.Alike.{and-left}
+use mathlib.Mathlib.Data.Bool.Basic.{and-elim-left as and-left}
 use Rattle.endpoint.specs.declared.State.the-variants.{Refresh}
 use Rattle.endpoint.specs.declared.Endpoint.{Endpoint}
 use Rattle.endpoint.specs.declared.Answer.the-variants.{Done}

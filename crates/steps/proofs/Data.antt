@@ -4,7 +4,7 @@ use mathlib.Core.List.{[], _∷_, _++_}
 use Prim.Native.Nat.{ℕ}
 use lib.Dec.{lit≤}
 use Rattle.frame.specs.declared.Command.{Command}
-use Rattle.frame.specs.Words.{wordBytes}
+use Rattle.words.specs.Words.{wordBytes}
 use Rattle.endpoint.specs.declared.Settings.{Settings}
 use Rattle.steps.specs.declared.frames.SetupData.{SetupData}
 use Rattle.steps.specs.Frames.{setupWords, setupData}

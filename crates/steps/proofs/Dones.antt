@@ -11,8 +11,9 @@ use borrow.Author.Tests.{leb-false, eqb-true, not-true, not-false}
 use Rattle.frame.specs.declared.Command.the-variants as K
 use Rattle.frame.specs.declared.Fields.{Fields}
 use Rattle.frame.specs.Control.{is}
-use Rattle.frame.specs.Reading.{same}
-use Rattle.frame.proofs.Alike.{and-left, and-right, same-eq}
+use Rattle.words.specs.Bytes.{same}
+use mathlib.Mathlib.Data.Bool.Basic.{and-elim-left as and-left, and-elim-right as and-right}
+use Rattle.words.proofs.Alike.{same-eq}
 use Rattle.endpoint.specs.declared.State.the-variants.{Close, Refresh, Terminate}
 use Rattle.endpoint.specs.declared.Pending.{Pending}
 use Rattle.endpoint.specs.declared.Pending.the-variants.{Nothing, Asked}

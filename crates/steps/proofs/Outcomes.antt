@@ -5,7 +5,7 @@ use Prim.Native.Nat.{ℕ, _≤_, _<_}
 use lib.ListN.{length}
 use borrow.Author.Tests.{lt-ltb, le-ltb}
 use Rattle.frame.specs.declared.Fields.{Fields}
-use Rattle.frame.specs.Output.{over}
+use Rattle.words.specs.Output.{over}
 use Rattle.endpoint.specs.declared.Endpoint.{Endpoint}
 use Rattle.endpoint.specs.declared.Reason.the-variants as R
 use Rattle.endpoint.specs.declared.Answer.{Answer}

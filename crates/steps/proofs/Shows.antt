@@ -7,8 +7,8 @@ use lib.Dec.{leb}
 use lib.ListN.{length, take, drop}
 use lib.Seq.{length-take-le}
 use borrow.Author.Tests.{lt-ltb, le-ltb, leb-true}
-use Rattle.frame.specs.Output.{over}
-use Rattle.frame.proofs.Alike.{and-left, and-right}
+use Rattle.words.specs.Output.{over}
+use mathlib.Mathlib.Data.Bool.Basic.{and-elim-left as and-left, and-elim-right as and-right}
 use Rattle.endpoint.specs.declared.Settings.{Settings}
 use Rattle.endpoint.specs.declared.Endpoint.{Endpoint}
 use Rattle.steps.specs.declared.Shown.{Shown}

@@ -10,8 +10,9 @@ use Rattle.frame.specs.declared.Command.{Command}
 use Rattle.frame.specs.declared.Command.the-variants as K
 use Rattle.frame.specs.declared.Fields.{Fields}
 use Rattle.frame.specs.Control.{is}
-use Rattle.frame.specs.Words.{wordBytes}
-use Rattle.frame.specs.RoundTrip.{Bytes, none, more, Typed}
+use Rattle.words.specs.Words.{wordBytes}
+use Rattle.words.specs.Bytes.{Bytes, none, more}
+use Rattle.frame.specs.RoundTrip.{Typed}
 use Rattle.endpoint.specs.declared.Settings.{Settings}
 use Rattle.endpoint.specs.declared.State.the-variants.{Refresh}
 use Rattle.endpoint.specs.declared.Endpoint.{Endpoint}

@@ -13,7 +13,7 @@ use Rattle.frame.specs.declared.Command.the-variants as K
 use Rattle.frame.specs.declared.Fields.{Fields}
 use Rattle.frame.specs.Control.{is, mayBeBusy, hasForm}
 use Rattle.frame.specs.Writing.{isBodyLength, isWritable, writtenOf, WriteSays}
-use Rattle.frame.proofs.Alike.{and-left, and-right, both}
+use mathlib.Mathlib.Data.Bool.Basic.{and-elim-left as and-left, and-elim-right as and-right, and-intro as both}
 use Rattle.frame.proofs.Lengths.{can-be-written}
 use Rattle.endpoint.specs.declared.Settings.{Settings}
 use Rattle.endpoint.specs.declared.State.{State}

@@ -9,7 +9,8 @@ use Rattle.frame.specs.declared.Command.the-variants as K
 use Rattle.frame.specs.declared.Fields.{Fields}
 use Rattle.frame.specs.Control.{is}
 use Rattle.frame.specs.Writing.{isWritable}
-use Rattle.frame.specs.RoundTrip.{Bytes, Typed}
+use Rattle.words.specs.Bytes.{Bytes}
+use Rattle.frame.specs.RoundTrip.{Typed}
 use Rattle.endpoint.specs.declared.Settings.{Settings}
 use Rattle.endpoint.specs.declared.State.the-variants.{Close, Refresh, Terminate}
 use Rattle.endpoint.specs.declared.Pending.the-variants.{Nothing, Asked}

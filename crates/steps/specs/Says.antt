@@ -6,7 +6,7 @@ use Prim.Native.Nat.{ℕ, _≤_}
 use lib.Dec.{ltb}
 use lib.ListN.{length, take}
 use Rattle.frame.specs.declared.Fields.{Fields}
-use Rattle.frame.specs.Output.{over}
+use Rattle.words.specs.Output.{over}
 use Rattle.frame.specs.Writing.{frameBytes}
 use Rattle.endpoint.specs.declared.Endpoint.{Endpoint}
 use Rattle.endpoint.specs.declared.Reason.the-variants as R

@@ -6,7 +6,7 @@ ghost use Prim.Native.Nat.{ℕ, _≤_};
 ghost use lib.ListN.{length, take, drop, replicate};
 ghost use Rattle.frame.specs.declared.Command.the-variants as K;
 ghost use Rattle.frame.specs.Control.{is};
-ghost use Rattle.frame.specs.Reading.{same};
+ghost use Rattle.words.specs.Bytes.{same};
 ghost use Rattle.endpoint.specs.Answers.{firstOf};
 ghost use Rattle.steps.specs.Deliveries.{refreshFaults, paddedOf, takeRefresh, requestFaults, takeRequest};
 ghost use Rattle.steps.specs.Deliveries.{replyFaults, takeReply, deliverOf};
@@ -48,11 +48,11 @@ use frame::Command;
 use frame::Fields;
 use frame::LONGEST_FRAME;
 use frame::control::is;
-use frame::read::same;
 use transitions::by_frame::ended_by;
 use transitions::by_frame::heard;
 use transitions::by_frame::refreshed;
 use transitions::by_frame::taken;
+use words::same;
 
 fn refresh_answer(e: Endpoint, clock: u64, stamp: u64, width: usize) -> Answer
     ensures { λ r. ⌜ r ≡ firstOf (refreshFaults e clock stamp width) ⌝ }

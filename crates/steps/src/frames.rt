@@ -3,7 +3,7 @@ ghost use mathlib.Core.Path.{_≡_};
 ghost use mathlib.Core.List.{_++_};
 ghost use Prim.Native.Nat.{_≤_};
 ghost use lib.ListN.{length};
-ghost use Rattle.frame.specs.Words.{wordBytes};
+ghost use Rattle.words.specs.Words.{wordBytes};
 ghost use Rattle.steps.specs.Frames.{setupData, dueData, widthOf, sendWidth, showWidth, sentFields, baselineOf};
 ghost use Rattle.steps.specs.Frames.{requestFields, refreshFields, disconnectFields, replyFields};
 ghost use Rattle.steps.specs.Says.{bytesIn, DataSays, WholeSays};

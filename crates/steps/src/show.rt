@@ -3,7 +3,7 @@ ghost use mathlib.Core.Path.{_≡_};
 ghost use mathlib.Core.List.{_++_};
 ghost use Prim.Native.Nat.{_≤_};
 ghost use lib.ListN.{length, take, drop};
-ghost use Rattle.frame.specs.Output.{over};
+ghost use Rattle.words.specs.Output.{over};
 ghost use Rattle.steps.specs.Calls.{isFailSafe, heldOr};
 ghost use Rattle.steps.specs.Says.{ShowSays};
 use super::Shown;

@@ -8,7 +8,7 @@ use lib.Dec.{eqb, ltb}
 use lib.ListN.{length, getD, List·getD-append}
 use lib.Seq.{getD-at, ext-getD}
 use borrow.Author.Tests.{lt-ltb, le-ltb, ltb-true, ltb-false, le-leb, lt-leb, eq-eqb}
-use Rattle.frame.proofs.Alike.{both}
+use mathlib.Mathlib.Data.Bool.Basic.{and-intro as both}
 use Rattle.text.specs.Printing.{every, hexDigit, hexOf, hexText}
 use Rattle.text.specs.Reading.{isHexDigit, isHex, digitOf, byteAt, upTo, byteIn, byteCount, bytesFrom}
 use Rattle.text.proofs.Runs.{length-hex, length-upto}

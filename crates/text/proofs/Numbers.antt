@@ -9,7 +9,7 @@ use lib.Seq.{drop-cons}
 use lib.Dec.{ltb, eqb}
 use borrow.Author.Tests.{le-ltb, lt-ltb, lt-leb, le-leb, ltb-false, eq-eqb, ne-eqb}
 use lib.ListN.{length, getD, drop, drop-of-length-le}
-use Rattle.frame.proofs.Alike.{and-left}
+use mathlib.Mathlib.Data.Bool.Basic.{and-elim-left as and-left}
 use Rattle.text.specs.declared.number.Number.the-variants.{Value, Invalid}
 use Rattle.text.specs.Printing.{every}
 use Rattle.text.specs.Reading.{isDecimal, valueFrom, numberFrom, numberOf}

@@ -7,7 +7,7 @@ use native.Mathlib.Omega.{arith}
 use lib.Dec.{eqb, ltb}
 use lib.ListN.{length, getD, List·getD-append}
 use borrow.Author.Tests.{lt-ltb, le-ltb, ltb-true, ltb-false, le-leb, ne-eqb}
-use Rattle.frame.proofs.Alike.{both}
+use mathlib.Mathlib.Data.Bool.Basic.{and-intro as both}
 use Rattle.text.specs.declared.number.Number.the-variants.{Value, Invalid}
 use Rattle.text.specs.Printing.{every, lastDigits, widthFrom, digitsOf}
 use Rattle.text.specs.Reading.{isDecimal, valueFrom, numberFrom, numberOf}

@@ -10,8 +10,8 @@ use lib.Seq.{sets-eq, take-set-le, drop-set-lt, drop-cons, getD-set-same, take-s
 use borrow.Author.Tests.{lt-ltb, le-ltb, lt-leb, le-leb}
 use lib.Dec.{leb}
 use mathlib.Core.Bool.{Bool, true, false, cond}
-use Rattle.frame.specs.Output.{put, over}
-use Rattle.frame.proofs.Put.{then, put-over}
+use Rattle.words.specs.Output.{put, over}
+use Rattle.words.proofs.Put.{then, put-over}
 use Rattle.text.specs.Reading.{upTo, byteIn, byteCount, bytesFrom, settingAt, settingCount, settingsIn}
 use Rattle.text.specs.Printing.{lastDigits, widthFrom, hexDigit, hexOf, hexText, Puts, Written}
 

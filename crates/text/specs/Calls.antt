@@ -4,7 +4,7 @@ use mathlib.Core.List.{List, [], _∷_}
 use Prim.Native.Nat.{ℕ, _-_}
 use lib.Dec.{eqb, leb, ltb}
 use lib.ListN.{length, getD}
-use Rattle.frame.specs.Reading.{same}
+use Rattle.words.specs.Bytes.{same}
 use Rattle.text.specs.declared.Act.{Act}
 use Rattle.text.specs.declared.Act.the-variants as A
 use Rattle.text.specs.declared.Line.{Line}

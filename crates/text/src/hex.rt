@@ -2,7 +2,7 @@
 ghost use mathlib.Core.Path.{_≡_};
 ghost use Prim.Native.Nat.{_+_, _*_, _≤_};
 ghost use lib.ListN.{length, getD};
-ghost use Rattle.frame.specs.Output.{put};
+ghost use Rattle.words.specs.Output.{put};
 ghost use Rattle.text.specs.Printing.{every, Written};
 ghost use Rattle.text.specs.Reading.{isHexDigit, isHex, isFrame, digitOf, byteAt, upTo, byteIn, byteCount};
 ghost use Rattle.text.specs.Reading.{bytesFrom, wordAt, settingAt, settingCount, settingsIn, isSettingAt};

@@ -15,7 +15,7 @@ use super::number::Number;
 use super::number::number_of;
 use super::word::first;
 use super::word::rest;
-use frame::read::same;
+use words::same;
 
 // What the first word of a line names.
 pub(crate) enum Name {

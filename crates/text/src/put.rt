@@ -3,7 +3,7 @@ ghost use mathlib.Core.Path.{_≡_};
 ghost use mathlib.Core.List.{[], _∷_};
 ghost use Prim.Native.Nat.{_+_, _*_, _/_, _%_, _≤_, _<_};
 ghost use lib.ListN.{length};
-ghost use Rattle.frame.specs.Output.{put};
+ghost use Rattle.words.specs.Output.{put};
 ghost use Rattle.text.specs.Printing.{lastDigits, widthFrom, digitsOf, hexDigit, hexOf, Puts};
 
 // The byte b at k.

@@ -1,5 +1,4 @@
 -- `frame::read::fields_in` meets its contract.
-use borrow.Author.Needs.{needs}
 use Rattle.frame.specs.Reading.{fieldsIn}
 use Rattle.frame.proofs.read.fields_in.Statement.{statement}
 use Rattle.frame.proofs.read.fields_in.Tie as tie
@@ -22,9 +21,9 @@ pub fields-in-spec : {M : Type 1} → statement M
 fields-in-spec =
     tie.close
     (tie.spec
-    (λ c κs. search needs)
-    (λ c κs. search needs)
-    (λ c κs. search needs)
-    (λ c κs. search needs)
+    (λ c κs. tt)
+    (λ c κs. tt)
+    (λ c κs. tt)
+    (λ c κs. tt)
     (λ c κs. tt)
     returns)

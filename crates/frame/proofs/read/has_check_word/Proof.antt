@@ -16,4 +16,4 @@ returns c = rw (c .before .crc32c .ensures, c .word-at .ensures)
 pub has-check-word-spec : {M : Type 1} → statement M
 has-check-word-spec =
     tie.close
-    (tie.spec (λ c. search needs) slice-aggregate-crc32c (λ c κs. tt) (λ c κs. search needs) returns)
+    (tie.spec (λ c. search needs) slice-aggregate-crc32c (λ c κs. tt) (λ c κs. tt) returns)

@@ -6,8 +6,9 @@ use borrow.Author.Needs.{needs}
 use borrow.Author.Tests.{not-false}
 use lib.ListN.{length}
 use lib.Seq.{length-take-le}
+use Rattle.words.proofs.Parts.{tail}
 use Rattle.frame.specs.Reading.{readingOf}
-use Rattle.frame.proofs.Lengths.{frame-length, tail}
+use Rattle.frame.proofs.Lengths.{frame-length}
 use Rattle.frame.proofs.read.read_frame.Statement.{statement}
 use Rattle.frame.proofs.read.read_frame.Tie as tie
 

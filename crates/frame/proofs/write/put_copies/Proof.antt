@@ -35,11 +35,11 @@ put-copies-spec =
     (λ c. search needs)
     slice-aggregate-crc32c
     (λ c κs. tt)
-    (λ c κs. search needs)
+    (λ c κs. tt)
     (λ c. search needs)
     (λ c κs. search needs)
     (λ c. search needs)
     (λ c. search needs)
-    (λ c κs. search needs)
+    (λ c κs. tt)
     (λ c. search needs)
     returns)

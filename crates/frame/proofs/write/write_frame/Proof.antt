@@ -1,16 +1,16 @@
 -- `frame::write::write_frame` meets its contract: two refusals that write nothing, and the frame.
 use mathlib.Core.Path.{sym, ap, _∙_}
 use mathlib.Core.Bool.{Bool, _&&_, and-false}
+use mathlib.Mathlib.Data.Bool.Basic.{and-intro}
 use Prim.Native.Nat.{ℕ, _+_, _*_}
 use native.Mathlib.Omega.{arith}
 use borrow.Author.Needs.{needs}
 use borrow.Author.Tests.{not-true, not-false, lt-leb, le-leb}
 use lib.Dec.{leb}
 use lib.ListN.{length}
-use Rattle.frame.specs.Output.{put}
+use Rattle.words.specs.Output.{put}
 use Rattle.frame.specs.Writing.{timeOf, carryOf, headBytes, withCheckWord, twice, subBytes, frameBytes}
 use Rattle.frame.specs.Writing.{isWritable}
-use Rattle.frame.proofs.Alike.{both}
 use Rattle.frame.proofs.Lengths.{can-be-written}
 use Rattle.frame.proofs.Written.{nothing, whole}
 use Rattle.frame.proofs.write.write_frame.Statement.{statement}
@@ -61,7 +61,7 @@ returns-3 c =
     let a = t .before .before .before .before .args in
     let n = length (a .body .now) in
     whole (a .fields) (a .body .now) (a .out .now)
-    (both (sym (t .before .is-writable .ensures) ∙ not-false _ (t .if1 .left))
+    (and-intro (sym (t .before .is-writable .ensures) ∙ not-false _ (t .if1 .left))
     (le-leb (48 + 2 * n) (length (a .out .now)) (k .before .if2 .left)))
     (c .before .before .put-copies .ensures
     ∙ ap (λ (v : ℕ). put (a .out .now) 0

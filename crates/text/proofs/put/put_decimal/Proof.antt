@@ -1,7 +1,7 @@
 -- `text::put::put_decimal` meets its contract.
 use mathlib.Core.Path.{sym, ap, _∙_}
 use Prim.Native.Nat.{ℕ, _+_}
-use Rattle.frame.specs.Output.{put}
+use Rattle.words.specs.Output.{put}
 use Rattle.text.specs.Printing.{lastDigits, widthFrom, digitsOf}
 use Rattle.text.proofs.Runs.{length-last}
 use borrow.Author.Needs.{needs}

@@ -3,7 +3,7 @@ use mathlib.Core.Path.{_≡_, refl, sym, ap, _∙_}
 use Prim.Native.Nat.{ℕ, _≤_}
 use native.Mathlib.Omega.{arith}
 use lib.ListN.{length, length-set}
-use Rattle.frame.specs.Output.{put}
+use Rattle.words.specs.Output.{put}
 use Rattle.text.specs.Printing.{lastDigits}
 use Rattle.text.proofs.Runs.{put-none, put-last}
 use borrow.Author.Needs.{needs}

@@ -5,8 +5,8 @@ use Prim.Native.Nat.{ℕ, _+_, _*_, _-_, _≤_}
 use lib.ListN.{length, take}
 use lib.Seq.{take-length, length-take-le}
 use native.Mathlib.Omega.{arith}
-use Rattle.frame.specs.Output.{put}
-use Rattle.frame.proofs.Put.{then}
+use Rattle.words.specs.Output.{put}
+use Rattle.words.proofs.Put.{then}
 use Rattle.text.specs.Printing.{hexOf}
 use Rattle.text.proofs.Runs.{put-none, length-hex, hex-turn}
 use borrow.Author.Needs.{needs}

@@ -2,7 +2,7 @@
 use mathlib.Core.Path.{ap₂, _∙_}
 use mathlib.Core.List.{[], _∷_}
 use Prim.Native.Nat.{ℕ}
-use Rattle.frame.specs.Output.{put}
+use Rattle.words.specs.Output.{put}
 use borrow.Author.Needs.{needs}
 use Rattle.text.proofs.put.put_hex_byte.Statement.{statement}
 use Rattle.text.proofs.put.put_hex_byte.Tie as tie

@@ -1,14 +1,14 @@
--- `frame::read::same` meets its contract: so far alike, and the rest is still to compare.
+-- `words::same` meets its contract: so far alike, and the rest is still to compare.
 use mathlib.Core.Path.{_≡_, sym, ap, _∙_}
 use mathlib.Core.Bool.{Bool, _&&_, and-assoc, and-true}
 use Prim.Native.Nat.{_+_, _≤_, _-_}
 use borrow.Author.Needs.{needs}
 use lib.Dec.{eqb}
 use lib.ListN.{length, drop, getD}
-use Rattle.frame.specs.Reading.{same}
-use Rattle.frame.proofs.Alike.{same-short, same-turn, same-end}
-use Rattle.frame.proofs.read.same.Statement.{statement}
-use Rattle.frame.proofs.read.same.Tie as tie
+use Rattle.words.specs.Bytes.{same}
+use Rattle.words.proofs.Alike.{same-short, same-turn, same-end}
+use Rattle.words.proofs.same.Statement.{statement}
+use Rattle.words.proofs.same.Tie as tie
 
 abbrev Inv-loop : tie.InvT-loop
 Inv-loop a b alike₀ i₀ alike i =

@@ -2,37 +2,26 @@
 use mathlib.Core.Path.{_≡_, refl, ap, ap₂, _∙_}
 use mathlib.Core.Bool.{Bool, true, false, _&&_, and-false, false≢true}
 use mathlib.Core.List.{List, [], _∷_}
+use mathlib.Mathlib.Data.Bool.Basic.{and-elim-left, and-elim-right, and-intro}
 use Prim.Native.Nat.{ℕ, suc, _+_, _≤_, _<_}
 use native.Mathlib.Numerals.{add-one}
 use lib.Dec.{eqb}
 use lib.ListN.{length, getD, drop, drop-of-length-le}
 use lib.Seq.{drop-cons}
 use borrow.Author.Tests.{eq-eqb, eqb-true}
-use Rattle.frame.specs.Reading.{same}
-
--- ---- both of two tests
-pub and-left : (a b : Bool) → (a && b) ≡ true → a ≡ true
-and-left true b h = refl
-and-left false b h = h
-
-pub and-right : (a b : Bool) → (a && b) ≡ true → b ≡ true
-and-right true b h = h
-and-right false b h = absurd (false≢true h)
-
-pub both : {a b : Bool} → a ≡ true → b ≡ true → (a && b) ≡ true
-both p q = λ i. p i && q i
+use Rattle.words.specs.Bytes.{same}
 
 -- ---- equal lists, and only these
 pub same-refl : (s : List ℕ) → same s s ≡ true
 same-refl [] = refl
-same-refl (x ∷ s) = both (eq-eqb x x refl) (same-refl s)
+same-refl (x ∷ s) = and-intro (eq-eqb x x refl) (same-refl s)
 
 pub same-eq : (a b : List ℕ) → same a b ≡ true → a ≡ b
 same-eq [] [] h = refl
 same-eq [] (y ∷ b) h = absurd (false≢true h)
 same-eq (x ∷ a) [] h = absurd (false≢true h)
 same-eq (x ∷ a) (y ∷ b) h =
-    ap₂ _∷_ (eqb-true x y (and-left (eqb x y) (same a b) h)) (same-eq a b (and-right (eqb x y) (same a b) h))
+    ap₂ _∷_ (eqb-true x y (and-elim-left (eqb x y) (same a b) h)) (same-eq a b (and-elim-right (eqb x y) (same a b) h))
 
 -- ---- the loop
 pub same-short : (xs ys : List ℕ) → (length xs ≡ length ys → ⊥) → same xs ys ≡ false

@@ -1,0 +1,4 @@
+-- Bytes and words, in reading order.
+pub mod Bytes
+pub mod Words
+pub mod Output
