@@ -8,7 +8,7 @@ use lib.Dec.{eqb, ltb}
 use lib.ListN.{length, getD, List·getD-append}
 use lib.Seq.{getD-at, ext-getD}
 use borrow.Author.Tests.{lt-ltb, le-ltb, ltb-true, ltb-false, le-leb, lt-leb, eq-eqb}
-use mathlib.Mathlib.Data.Bool.Basic.{and-intro as both}
+use mathlib.Mathlib.Data.Bool.Basic.{and-intro}
 use Rattle.text.specs.Printing.{every, hexDigit, hexOf, hexText}
 use Rattle.text.specs.Reading.{isHexDigit, isHex, digitOf, byteAt, upTo, byteIn, byteCount, bytesFrom}
 use Rattle.text.proofs.Runs.{length-hex, length-upto}
@@ -92,7 +92,7 @@ unfolding hexOf every
 are-digits [] h = refl
 are-digits (b ∷ s) h =
     let k : b < 256 = h 0 in
-    both (one (b / 16) (omega arith) .0) (both (one (b % 16) (omega arith) .0) (are-digits s (λ i. h (suc i))))
+    and-intro (one (b / 16) (omega arith) .0) (and-intro (one (b % 16) (omega arith) .0) (are-digits s (λ i. h (suc i))))
 
 -- ---- the theorem
 pub bytes-back : (s : List ℕ) → ((i : ℕ) → getD s i 0 < 256)
@@ -103,6 +103,6 @@ bytes-back (b ∷ s) h =
     let t : List ℕ = hexOf (b ∷ s) in
     let l = length-hex (b ∷ s) in
     let x : Bool = eqb (length t) 1 && eqb (getD t 0 0) 45 in
-    let e = both (lt-ltb 0 (length t) (omega arith))
-    (both (eq-eqb (length t % 2) 0 (omega arith)) (are-digits (b ∷ s) h)) in
+    let e = and-intro (lt-ltb 0 (length t) (omega arith))
+    (and-intro (eq-eqb (length t % 2) 0 (omega arith)) (are-digits (b ∷ s) h)) in
     (ap (λ (p : Bool). x || p) e ∙ or-true x, all-back (b ∷ s) h)

@@ -3,7 +3,6 @@ pub mod Runs
 pub mod Every
 pub mod Words
 pub mod Numbers
-pub mod Tests
 pub mod Rooms
 pub mod NumbersBack
 pub mod BytesBack

@@ -9,7 +9,7 @@ use lib.Seq.{drop-cons}
 use lib.Dec.{ltb, eqb}
 use borrow.Author.Tests.{le-ltb, lt-ltb, lt-leb, le-leb, ltb-false, eq-eqb, ne-eqb}
 use lib.ListN.{length, getD, drop, drop-of-length-le}
-use mathlib.Mathlib.Data.Bool.Basic.{and-elim-left as and-left}
+use mathlib.Mathlib.Data.Bool.Basic.{and-elim-left}
 use Rattle.text.specs.declared.number.Number.the-variants.{Value, Invalid}
 use Rattle.text.specs.Printing.{every}
 use Rattle.text.specs.Reading.{isDecimal, valueFrom, numberFrom, numberOf}
@@ -60,7 +60,7 @@ unfolding numberFrom valueFrom every
 number-turn v b s x h =
     let m : ℕ = 10 * v + (b - 48) in
     let f = is-value (isDecimal b && true && ltb m 18446744073709551616) m x h in
-    let e = and-left (isDecimal b) true (and-left (isDecimal b && true) _ (f .0)) in
+    let e = and-elim-left (isDecimal b) true (and-elim-left (isDecimal b && true) _ (f .0)) in
     λ i. cond (e i && every isDecimal s && ltb (valueFrom (f .1 i) s) 18446744073709551616)
     (Value (valueFrom (f .1 i) s)) Invalid
 

@@ -7,7 +7,7 @@ use native.Mathlib.Omega.{arith}
 use lib.Dec.{eqb, ltb}
 use lib.ListN.{length, getD, List·getD-append}
 use borrow.Author.Tests.{lt-ltb, le-ltb, ltb-true, ltb-false, le-leb, ne-eqb}
-use mathlib.Mathlib.Data.Bool.Basic.{and-intro as both}
+use mathlib.Mathlib.Data.Bool.Basic.{and-intro}
 use Rattle.text.specs.declared.number.Number.the-variants.{Value, Invalid}
 use Rattle.text.specs.Printing.{every, lastDigits, widthFrom, digitsOf}
 use Rattle.text.specs.Reading.{isDecimal, valueFrom, numberFrom, numberOf}
@@ -27,7 +27,7 @@ and-then false q r h g = h
 every-snoc : (test : ℕ → Bool) (a : List ℕ) (b : ℕ) → every test a ≡ true → test b ≡ true
     → every test (a ++ (b ∷ [])) ≡ true
 unfolding every
-every-snoc test [] b h k = both k refl
+every-snoc test [] b h k = and-intro k refl
 every-snoc test (x ∷ a) b h k = and-then (test x) (every test a) _ h (λ g. every-snoc test a b g k)
 
 are-decimal : (w n : ℕ) → every isDecimal (lastDigits w n) ≡ true
@@ -36,7 +36,7 @@ are-decimal zero n = refl
 are-decimal (suc w) n =
     let d = n % 10 in
     every-snoc isDecimal (lastDigits w (n / 10)) (48 + d) (are-decimal w (n / 10))
-    (both (le-leb 48 (48 + d) (omega arith)) (le-leb (48 + d) 57 (omega arith)))
+    (and-intro (le-leb 48 (48 + d) (omega arith)) (le-leb (48 + d) 57 (omega arith)))
 
 -- ---- the width
 unfoldable tens : ℕ → ℕ
@@ -119,5 +119,5 @@ number-back n h =
     let b : n < tens 19 = omega arith in
     let l : length s ≡ 0 → ⊥ = λ (e : length s ≡ 0). omega (arith, length-last (widthFrom 19 n) n, width-some 19 n) in
     let v : valueFrom 0 s ≡ n = by-tens Back back-low back-high 19 n b in
-    let d = both (are-decimal (widthFrom 19 n) n) (ap (λ (x : ℕ). ltb x 18446744073709551616) v ∙ lt-ltb n _ h) in
+    let d = and-intro (are-decimal (widthFrom 19 n) n) (ap (λ (x : ℕ). ltb x 18446744073709551616) v ∙ lt-ltb n _ h) in
     number-word s l (no-zero n b) ∙ (λ i. cond (d i) (Value (v i)) Invalid)

@@ -4,6 +4,8 @@ use mathlib.Core.List.{List, [], _∷_, _++_}
 use Prim.Native.Nat.{ℕ, zero, suc, _+_, _-_, _*_, _/_, _%_}
 use lib.Dec.{eqb, leb, ltb}
 use lib.ListN.{length, getD, take, drop}
+use Rattle.bytes.specs.Bytes.{indexOf}
+use Rattle.words.specs.Words.{wordOf}
 use Rattle.text.specs.declared.number.Number.{Number}
 use Rattle.text.specs.declared.number.Number.the-variants.{Value, Invalid}
 use Rattle.text.specs.Printing.{every}
@@ -11,13 +13,11 @@ use Rattle.text.specs.Printing.{every}
 -- ---- words
 -- the first word: the bytes before the first space
 unfoldable pub wordIn : List ℕ → List ℕ
-wordIn [] = []
-wordIn (b ∷ s) = cond (eqb b 32) [] (b ∷ wordIn s)
+wordIn s = take (indexOf 32 s) s
 
 -- what follows the first space; nothing where there is none
 unfoldable pub restOf : List ℕ → List ℕ
-restOf [] = []
-restOf (b ∷ s) = cond (eqb b 32) s (restOf s)
+restOf s = drop (indexOf 32 s + 1) s
 
 -- ---- numbers
 abbrev pub isDecimal : ℕ → Bool
@@ -81,8 +81,7 @@ bytesFrom s start = upTo (byteIn s start) (byteCount s start)
 -- ---- settings words: after `load`, a space and eight digits each
 -- the word whose digits stand at k
 unfoldable pub wordAt : List ℕ → ℕ → ℕ
-wordAt s k =
-    16777216 * byteAt s k + (65536 * byteAt s (k + 2) + (256 * byteAt s (k + 4) + byteAt s (k + 6)))
+wordAt s k = wordOf (byteAt s k) (byteAt s (k + 2)) (byteAt s (k + 4)) (byteAt s (k + 6))
 
 -- the settings word i
 unfoldable pub settingAt : List ℕ → ℕ → ℕ
@@ -106,4 +105,4 @@ areSettings s (suc n) = areSettings s n && isSettingAt s n
 
 -- at most 64, and nothing after the last
 unfoldable pub isLoad : List ℕ → Bool
-isLoad s = eqb (length s) (4 + 9 * settingCount s) && (leb (settingCount s) 64 && areSettings s (settingCount s))
+isLoad s = eqb (length s) (4 + 9 * settingCount s) && leb (settingCount s) 64 && areSettings s (settingCount s)

@@ -1,22 +1,13 @@
 // Hexadecimal digits: bytes and settings words, tested and read.
 ghost use mathlib.Core.Path.{_≡_};
 ghost use Prim.Native.Nat.{_+_, _*_, _≤_};
-ghost use lib.ListN.{length, getD};
+ghost use lib.ListN.{length};
 ghost use Rattle.words.specs.Output.{put};
 ghost use Rattle.text.specs.Printing.{every, Written};
 ghost use Rattle.text.specs.Reading.{isHexDigit, isHex, isFrame, digitOf, byteAt, upTo, byteIn, byteCount};
 ghost use Rattle.text.specs.Reading.{bytesFrom, wordAt, settingAt, settingCount, settingsIn, isSettingAt};
 ghost use Rattle.text.specs.Reading.{areSettings, isLoad};
-
-// The byte at k, 0 past the end.
-pub(crate) fn at(s: &[u8], k: usize) -> u8
-    ensures { λ r. ⌜ r ≡ getD (now (s .entry)) k 0 ⌝ }
-{
-    if k < s.len() {
-        return s[k];
-    }
-    0
-}
+use words::word_of;
 
 fn is_hex_digit(b: u8) -> bool
     ensures { λ r. ⌜ r ≡ isHexDigit b ⌝ }
@@ -41,7 +32,7 @@ pub(crate) fn is_hex(s: &[u8]) -> bool
     ensures { λ r. ⌜ r ≡ isHex (now (s .entry)) ⌝ }
 {
     let n = s.len();
-    ((n == 1) & (at(s, 0) == 45)) | ((0 < n) & ((n % 2 == 0) & are_digits(s)))
+    ((n == 1) & (words::byte_at(s, 0) == 45)) | ((0 < n) & ((n % 2 == 0) & are_digits(s)))
 }
 
 // Whether a text is at most 512 bytes.
@@ -75,12 +66,6 @@ fn byte_at(s: &[u8], k: usize) -> u8
     ensures { λ r. ⌜ r ≡ byteAt (now (s .entry)) k ⌝ }
 {
     16 * digit_of(s[k]) + digit_of(s[k + 1])
-}
-
-fn word_of(a: u8, b: u8, c: u8, d: u8) -> u32
-    ensures { λ r. ⌜ r ≡ 16777216 * a + (65536 * b + (256 * c + d)) ⌝ }
-{
-    16777216 * (a as u32) + (65536 * (b as u32) + (256 * (c as u32) + (d as u32)))
 }
 
 // The word whose eight digits stand at k.
@@ -163,7 +148,7 @@ fn is_setting_at(line: &[u8], i: usize) -> bool
 {
     let a = 5 + 9 * i;
     let e = a + 8;
-    (at(line, 4 + 9 * i) == 32) & are_digits(&line[a..e])
+    (words::byte_at(line, 4 + 9 * i) == 32) & are_digits(&line[a..e])
 }
 
 // Whether the first n words of a line have their form.
@@ -189,8 +174,8 @@ pub(crate) fn is_load(line: &[u8]) -> bool
         return false;
     }
     let count = (n - 4) / 9;
-    if !((n == 4 + 9 * count) & (count <= 64)) {
-        return false;
+    if (n == 4 + 9 * count) & (count <= 64) {
+        return are_settings(line, count);
     }
-    are_settings(line, count)
+    false
 }

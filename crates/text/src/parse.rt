@@ -7,7 +7,6 @@ ghost use Rattle.text.specs.Calls.{stationName, timedName, nameOf, pairO
 ghost use Rattle.text.specs.Calls.{timedIn, sendIn, deliverIn, checkIn, callOf, lineOf};
 use super::Act;
 use super::Line;
-use super::hex::at;
 use super::hex::is_frame;
 use super::hex::is_hex;
 use super::hex::is_load;
@@ -15,6 +14,7 @@ use super::number::Number;
 use super::number::number_of;
 use super::word::first;
 use super::word::rest;
+use words::byte_at;
 use words::same;
 
 // What the first word of a line names.
@@ -216,7 +216,7 @@ pub fn parse(line: &[u8]) -> Line
     if 4096 < n {
         return Line::Wrong;
     }
-    if (n == 0) | (at(line, 0) == 35) {
+    if (n == 0) | (byte_at(line, 0) == 35) {
         return Line::Nothing;
     }
     call_of(name_of(first(line)), line)

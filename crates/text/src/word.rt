@@ -2,20 +2,15 @@
 ghost use mathlib.Core.Path.{_≡_};
 ghost use Prim.Native.Nat.{_≤_};
 ghost use lib.ListN.{length};
+ghost use Rattle.bytes.specs.Bytes.{indexOf};
 ghost use Rattle.text.specs.Reading.{wordIn, restOf};
+use bytes::scan::find;
 
 // The length of the first word.
 fn word_length(s: &[u8]) -> usize
-    ensures { λ r. ⌜ (r ≡ length (wordIn (now (s .entry)))) × (r ≤ length (now (s .entry))) ⌝ }
+    ensures { λ r. ⌜ (r ≡ indexOf 32 (now (s .entry))) × (r ≤ length (now (s .entry))) ⌝ }
 {
-    let mut i = 0;
-    while i < s.len() {
-        if s[i] == 32 {
-            return i;
-        }
-        i += 1;
-    }
-    i
+    find(s, 0, s.len(), 32)
 }
 
 // The bytes before the first space.

@@ -12,7 +12,7 @@ returns : tie.Need-returns
 unfolding isHex
 returns c =
     let n = length (c .before .before .before .args .s .now) in
-    λ i. eqb n 1 && eqb (c .before .at .ensures i) 45 || ltb 0 n && (eqb (n % 2) 0 && c .are-digits .ensures i)
+    λ i. eqb n 1 && eqb (c .before .byte-at .ensures i) 45 || ltb 0 n && (eqb (n % 2) 0 && c .are-digits .ensures i)
 
 pub is-hex-spec : {M : Type 1} → statement M
 is-hex-spec = tie.close

@@ -19,7 +19,7 @@ returns c =
     let i = b .before .before .args .i in
     let e : 5 + 9 * i + 8 - (5 + 9 * i) ≡ 8 = omega arith in
     let f = c .are-digits .ensures ∙ ap (λ (n : ℕ). every isHexDigit (take n (drop (5 + 9 * i) s))) e in
-    λ j. eqb (b .at .ensures j) 32 && f j
+    λ j. eqb (b .byte-at .ensures j) 32 && f j
 
 pub is-setting-at-spec : {M : Type 1} → statement M
 is-setting-at-spec =

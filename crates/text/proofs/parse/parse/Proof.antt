@@ -14,7 +14,7 @@ returns c = rw (lt-ltb _ _ (c .if1 .taken))
 returns-2 : tie.Need-returns-2
 unfolding lineOf
 returns-2 c =
-    rw (le-ltb _ _ (c .before .before .if1 .left), ← c .before .at .ensures, c .if2 .taken)
+    rw (le-ltb _ _ (c .before .before .if1 .left), ← c .before .byte-at .ensures, c .if2 .taken)
 
 returns-3 : tie.Need-returns-3
 unfolding lineOf
@@ -22,7 +22,7 @@ returns-3 c =
     let f = c .before .before in
     let t = f .before in
     let s = t .before .before .before .before .args .line .now in
-    rw (le-ltb _ _ (t .before .before .if1 .left), ← t .before .at .ensures, t .if2 .left)
+    rw (le-ltb _ _ (t .before .before .if1 .left), ← t .before .byte-at .ensures, t .if2 .left)
     (c .call-of .ensures
     ∙ ap (λ (n : Name). callOf n s) (c .before .name-of .ensures ∙ ap nameOf (f .first .ensures)))
 
