@@ -23,7 +23,7 @@ use Rattle.steps.proofs.Keeps.{bcase}
 use Rattle.settings.specs.Words.{restOf, isTicks, hasKinds}
 use Rattle.settings.specs.Lists.{wordOf, connectionAt, settingsAt, isConnectionAt, isNewAt, areConnections, countOf}
 use Rattle.settings.specs.Lists.{isList}
-use Rattle.settings.proofs.Tests.{count-le}
+use Rattle.settings.proofs.Counts.{count-le}
 use Rattle.device.specs.declared.Device.{Device}
 use Rattle.device.specs.declared.Entry.the-variants.{At}
 use Rattle.device.specs.declared.load.Loaded.{Loaded}

@@ -1,2 +1,2 @@
--- Laws of the list's tests.
-pub mod Tests
+-- What a right list tells.
+pub mod Counts

@@ -41,4 +41,4 @@ countOf ws = length ws / 7
 
 -- 1 to 8 connections of seven words each
 unfoldable pub isList : List ℕ → Bool
-isList ws = eqb (length ws % 7) 0 && (leb 1 (countOf ws) && (leb (countOf ws) 8 && areConnections ws (countOf ws)))
+isList ws = eqb (length ws % 7) 0 && leb 1 (countOf ws) && leb (countOf ws) 8 && areConnections ws (countOf ws)

@@ -169,8 +169,8 @@ pub fn is_list(list: &[u32]) -> bool
     ensures { λ r. ⌜ r ≡ isList (now (list .entry)) ⌝ }
 {
     let n = list.len();
-    if !((n % 7 == 0) & ((1 <= n / 7) & (n / 7 <= 8))) {
-        return false;
+    if (n % 7 == 0) & (1 <= n / 7) & (n / 7 <= 8) {
+        return are_connections(list, (n / 7) as u8);
     }
-    are_connections(list, (n / 7) as u8)
+    false
 }
