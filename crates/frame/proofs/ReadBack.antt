@@ -13,13 +13,13 @@ use Rattle.frame.specs.declared.Fields.{Fields}
 use Rattle.frame.specs.declared.Reading.the-variants.{Frame}
 use Rattle.frame.specs.Reading.{readingOf}
 use Rattle.frame.specs.Writing.{frameBytes, isWritable, writtenOf, WriteSays}
-use Rattle.frame.specs.RoundTrip.{Typed, Writable, RoundTrip}
+use Rattle.frame.specs.RoundTrip.{Typed, Readable, RoundTrip}
 use Rattle.frame.proofs.Lengths.{length-frame}
 use Rattle.frame.proofs.There.{reads, body-lies}
 use Rattle.frame.proofs.Back.{within, back}
 
 -- what was read of equal bytes is equal
-only : (f g : Fields) (b c : List ℕ) → Writable f b → Writable g c → frameBytes f b ≡ frameBytes g c → (f ≡ g) × (b ≡ c)
+only : (f g : Fields) (b c : List ℕ) → Readable f b → Readable g c → frameBytes f b ≡ frameBytes g c → (f ≡ g) × (b ≡ c)
 only f g b c w x e =
     let r : Frame f 20 (20 + length b) ≡ Frame g 20 (20 + length c) = sym (reads f b w) ∙ ap readingOf e
     ∙ reads g c x in
@@ -40,9 +40,13 @@ module _ (f : Fields) (body out out′ : List ℕ) (count : ℕ) (t : Typed f bo
       let n : length (writtenOf f body (length out)) ≡ 0 = rw h in
       absurd (omega (arith, w .counted))
 
-  writable : Writable f body
+  readable : Readable f body
   unfolding test
-  writable = record { typed = t; formed = and-elim-left (isWritable f (length body)) _ (passed test refl) }
+  readable = record {
+    baseline = t .baseline;
+    subconnection = t .subconnection;
+    formed = and-elim-left (isWritable f (length body)) _ (passed test refl);
+  }
 
   is-frame : writtenOf f body (length out) ≡ frameBytes f body
   unfolding test writtenOf
@@ -58,13 +62,13 @@ module _ (f : Fields) (body out out′ : List ℕ) (count : ℕ) (t : Typed f bo
       ∙ take-at (frameBytes f body) _ count (sym (w .counted ∙ ap length is-frame))
 
   read-back : readingOf (take count out′) ≡ Frame f 20 (20 + length body)
-  read-back = ap readingOf front ∙ reads f body writable
+  read-back = ap readingOf front ∙ reads f body readable
 
   body-back : slice 20 (20 + length body) out′ ≡ body
   body-back =
       ap (slice 20 (20 + length body)) output
       ∙ ap (drop 20) (take-append-le (20 + length body) (frameBytes f body) _ (omega (arith, length-frame f body)))
-      ∙ body-lies f body writable
+      ∙ body-lies f body readable
 
 pub round-trip : RoundTrip
 round-trip = record {

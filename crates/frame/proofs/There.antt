@@ -19,7 +19,7 @@ use Rattle.frame.specs.Control.{controlOf}
 use Rattle.frame.specs.Reading.{isFrameLength, hasCheckWord, fieldsOf, fieldsIn, isFormed, readingOfCopies}
 use Rattle.frame.specs.Reading.{readingOf}
 use Rattle.frame.specs.Writing.{timeOf, carryOf, headBytes, withCheckWord, twice, subBytes, frameBytes}
-use Rattle.frame.specs.RoundTrip.{Writable}
+use Rattle.frame.specs.RoundTrip.{Readable}
 use Rattle.frame.proofs.Lengths.{CanBeWritten, can-be-written, length-sub, length-frame, slice-from}
 use Rattle.frame.proofs.Digits.{fields-of-words}
 
@@ -33,7 +33,7 @@ check-word s =
     let e : length s ≡ n = omega (arith, length-append s (wordBytes (crc s))) in
     eq-eqb _ _ (ap crc (take-at s (wordBytes (crc s)) n e) ∙ sym (word-end s (crc s) n (sym e)))
 
-module _ (f : Fields) (body : List ℕ) (w : Writable f body) where
+module _ (f : Fields) (body : List ℕ) (w : Readable f body) where
   sub : List ℕ
   sub = subBytes f body
 
@@ -63,7 +63,7 @@ module _ (f : Fields) (body : List ℕ) (w : Writable f body) where
   fields : fieldsIn sub ≡ f
   unfolding fieldsIn
   fields = (λ i. fieldsOf (w0 i) (w4 i) (w8 i) (w12 i))
-      ∙ fields-of-words f (w .typed .subconnection) (w .typed .baseline)
+      ∙ fields-of-words f (w .subconnection) (w .baseline)
 
   formed : isFormed (wordAt sub 0) (wordAt sub 16) (fieldsIn sub) ≡ true
   formed = (λ i. isFormed (w0 i) (w16 i) (fields i))

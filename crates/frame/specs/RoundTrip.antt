@@ -28,9 +28,15 @@ pub record Writable (f : Fields) (body : List ℕ) : Type 0 where
   pub typed : Typed f body
   pub formed : isWritable f (length body) ≡ true
 
+-- what reads back: the form, and OBL and Sub CID of 16 bits; nothing is asked of the CID, nor of the body but its length
+pub record Readable (f : Fields) (body : List ℕ) : Type 0 where
+  pub baseline : f .baseline < 65536
+  pub subconnection : SubconnectionFits (f .subconnection)
+  pub formed : isWritable f (length body) ≡ true
+
 pub record RoundTrip : Type 0 where
   -- a written frame has no fault and reads back as its fields, its body where the reading says
-  pub there : (f : Fields) (body : List ℕ) → Writable f body
+  pub there : (f : Fields) (body : List ℕ) → Readable f body
       → (readingOf (frameBytes f body) ≡ Frame f 20 (20 + length body))
       × (slice 20 (20 + length body) (frameBytes f body) ≡ body)
   -- an accepted list of bytes is what writing its fields gives
@@ -40,7 +46,7 @@ pub record RoundTrip : Type 0 where
   pub within : (s : List ℕ) (f : Fields) (start end : ℕ)
       → readingOf s ≡ Frame f start end → (start ≤ end) × (end ≤ length s)
   -- so no two writings are the same bytes
-  pub only : (f g : Fields) (b c : List ℕ) → Writable f b → Writable g c
+  pub only : (f g : Fields) (b c : List ℕ) → Readable f b → Readable g c
       → frameBytes f b ≡ frameBytes g c → (f ≡ g) × (b ≡ c)
   -- what write_frame wrote, read_frame reads back
   pub written : (f : Fields) (body out out′ : List ℕ) (count : ℕ) → Typed f body

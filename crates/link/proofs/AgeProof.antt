@@ -15,9 +15,9 @@ use Rattle.endpoint.specs.Time.{lastReading, isExpired}
 use Rattle.steps.specs.Calls.{isFailSafe, shownOf}
 use Rattle.steps.proofs.Dispatch.{cond-false}
 use Rattle.steps.proofs.Keeps.{bcase}
-use Rattle.steps.specs.Steps.{Call, act, send, deliver, show}
+use Rattle.steps.specs.Steps.{Call, act, send, deliver, show, callOf}
 use Rattle.link.specs.Runs.{Clocks, momentOf, Event}
-use Rattle.link.specs.Runs.{callOf, Entry, entryAt, logged, Show, shown, showAt, Link, mayDeliver, tookBy}
+use Rattle.link.specs.Runs.{Entry, entryAt, logged, Show, shown, showAt, Link, mayDeliver, tookBy}
 use Rattle.link.specs.Runs.{shownBy}
 use Rattle.link.specs.Runs.{afterEvent, afterAll, begun}
 use Rattle.link.specs.Fresh.{Paired, boundOf, ItsSend, Fresh, AgeTheorem, Silence}

@@ -24,8 +24,8 @@ use Rattle.steps.proofs.Dispatch.{cond-true, cond-false, deliver-request, deliv
 use Rattle.steps.proofs.Dones.{send-done, stop-done, refresh-done, request-done, reply-done}
 use Rattle.steps.proofs.Firsts.{not-dropped}
 use Rattle.steps.proofs.Keeps.{bcase}
-use Rattle.steps.specs.Steps.{stop, Call, act, send, deliver}
-use Rattle.link.specs.Runs.{Clocks, callOf, Entry, logged, mayDeliver, tookBy}
+use Rattle.steps.specs.Steps.{stop, Call, act, send, deliver, callOf}
+use Rattle.link.specs.Runs.{Clocks, Entry, logged, mayDeliver, tookBy}
 use Rattle.link.specs.Fresh.{Paired}
 use Rattle.link.proofs.Relation.{Linked}
 use Rattle.link.proofs.Entries.{FoundAt}

@@ -8,14 +8,10 @@ use lib.ListN.{length}
 use Rattle.frame.specs.declared.Command.the-variants as K
 use Rattle.frame.specs.Control.{is}
 use Rattle.endpoint.specs.declared.Settings.{Settings}
+use Rattle.steps.specs.Laws.{Ticks}
 use Rattle.link.specs.Runs.{Clocks, Event, Entry, entryAt, Show, showAt, Link, afterAll, begun}
 
 -- settings as a loaded list has them, one end master and the other slave; that they name one CID is not needed
-pub record Ticks (s : Settings) : Type 0 where
-  pub interval : s .interval ≤ 65535
-  pub roundtrip : s .roundtrip ≤ 65535
-  pub age : s .age ≤ 65535
-
 pub record Paired (sm ss : Settings) : Type 0 where
   pub master : sm .slave ≡ false
   pub slave : ss .slave ≡ true

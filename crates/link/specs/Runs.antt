@@ -12,16 +12,14 @@ use Rattle.frame.specs.Control.{is, subconnectionBits}
 use Rattle.words.specs.Bytes.{same}
 use Rattle.endpoint.specs.declared.Settings.{Settings}
 use Rattle.endpoint.specs.declared.Endpoint.{Endpoint}
-use Rattle.endpoint.specs.declared.Reason.the-variants as R
 use Rattle.endpoint.specs.declared.Answer.{Answer}
-use Rattle.endpoint.specs.declared.Answer.the-variants.{Ended}
 use Rattle.endpoint.specs.Answers.{isDone}
-use Rattle.endpoint.specs.Time.{lastReading, isExpired, endedOf}
+use Rattle.endpoint.specs.Time.{lastReading}
 use Rattle.transitions.specs.ByCall.{freshOf}
 use Rattle.steps.specs.Frames.{Written, nothing, frame, sentFields}
 use Rattle.steps.specs.Frames as W
-use Rattle.steps.specs.Calls.{Outcome, outcome, isFailSafe, shownOf}
-use Rattle.steps.specs.Steps.{Call, act, send, deliver, show, stepOf}
+use Rattle.steps.specs.Calls.{isFailSafe, shownOf}
+use Rattle.steps.specs.Steps.{Call, act, send, deliver, show, callOf}
 
 -- ---- moments
 -- a call's moment is its reading plus a constant of its end; document 01's D is the slave's constant less the master's
@@ -38,10 +36,6 @@ pub record Event : Type 0 where
   pub slave : Bool
   pub clock : ℕ
   pub call : Call
-
--- the clock step first: number 9
-abbrev pub callOf : Endpoint → ℕ → Call → Outcome
-callOf e t call = cond (isExpired e t) (outcome (Ended R.Expired) (endedOf e) nothing) (stepOf e t call)
 
 -- ---- the frames written, oldest first
 -- by whom, when, the fields and the body, and the value lent to the call: only a send is lent one

@@ -1,21 +1,25 @@
--- What an endpoint writes can be written, and carries its CID and its role's Application bit.
+-- A frame that an endpoint writes reads back, and carries its CID and its role's Application bit.
 use mathlib.Core.Path.{_≡_, refl, sym, subst}
-use mathlib.Core.Bool.{true, false, _&&_, _||_, not, Bool·beq}
+use mathlib.Core.Bool.{Bool, true, false, _&&_, _||_, not, Bool·beq}
 use mathlib.Core.List.{List}
-use Prim.Native.Nat.{ℕ}
+use Prim.Native.Nat.{ℕ, _<_}
+use lib.Dec.{lit<}
 use lib.ListN.{length}
 use borrow.Author.Tests.{not-true, not-false}
+use Rattle.frame.specs.declared.Command.{Command}
 use Rattle.frame.specs.declared.Command.the-variants as K
 use Rattle.frame.specs.declared.Fields.{Fields}
 use Rattle.frame.specs.Control.{is}
-use Rattle.frame.specs.Writing.{isBodyLength}
+use Rattle.frame.specs.Writing.{isBodyLength, isWritable}
+use Rattle.frame.specs.RoundTrip.{Readable}
 use mathlib.Mathlib.Data.Bool.Basic.{and-elim-left as and-left}
 use Rattle.endpoint.specs.declared.State.the-variants.{Refresh}
 use Rattle.endpoint.specs.declared.Endpoint.{Endpoint}
 use Rattle.endpoint.specs.declared.Answer.the-variants.{Done}
 use Rattle.endpoint.specs.Answers.{firstOf, isDone, isDropped, isEnded}
 use Rattle.endpoint.specs.Table.{isState, isSetup}
-use Rattle.endpoint.specs.Due.{isPending, mayRequest}
+use Rattle.endpoint.specs.Due.{requestDue, isPending, mayRequest}
+use Rattle.steps.specs.Frames.{dueData, setupData, sentFields}
 use Rattle.steps.specs.Calls.{Outcome, sendFaults, sendOf, stopFaults, stopOf}
 use Rattle.steps.specs.Deliveries.{requestFaults, repliedOf, deliverOf}
 use Rattle.steps.specs.Laws.{Carries}
@@ -23,6 +27,7 @@ use Rattle.steps.proofs.Dispatch.{cond-true, cond-false, deliver-echo, 
 use Rattle.steps.proofs.Dispatch.{deliver-reply}
 use Rattle.steps.proofs.Firsts.{is-done, first-done, sent-width, request-width, neither}
 use Rattle.steps.proofs.Keeps.{bcase}
+use Rattle.steps.proofs.Types.{baseline-fits}
 use Rattle.steps.proofs.Whole.{request-writable, refresh-writable, disconnect-writable, reply-writable}
 use Rattle.steps.proofs.Whole.{send-width-length, setup-length}
 
@@ -38,6 +43,12 @@ pub master-requests : (e : Endpoint) → mayRequest e ≡ true → e .settings .
 master-requests e h = not-true (e .settings .slave)
     (and-left (not (e .settings .slave)) (isSetup (e .state) && not (isPending (e .setup .pending))) h)
 
+reads-back : (k : Command) (application : Bool) (connection timestamp baseline : ℕ) (body : List ℕ)
+    → baseline < 65536 → isWritable (sentFields k application connection timestamp baseline) (length body) ≡ true
+    → Readable (sentFields k application connection timestamp baseline) body
+reads-back k application connection timestamp baseline body b w =
+    record { baseline = b; subconnection = tt; formed = w }
+
 module _ (e : Endpoint) (t : ℕ) where
   pub send-carries : (value : List ℕ) → Carries e (sendOf e t value .writes)
   send-carries value =
@@ -47,8 +58,18 @@ module _ (e : Endpoint) (t : ℕ) where
       (λ h.
       let d = is-done a h in
       rw h (bcase (isState (e .state) Refresh)
-      (λ k. rw k (refresh-writable e t n (rw (sent-width e t n k d) (send-width-length (e .settings))), refl, refl))
-      (λ k. rw k (request-writable e t, refl, sym (master-requests e (may-request e t n k d))))))
+      (λ k. rw k (
+        reads-back _ _ _ _ _ value (lit< tt)
+            (refresh-writable e t n (rw (sent-width e t n k d) (send-width-length (e .settings)))),
+        refl,
+        refl,
+      ))
+      (λ k. rw k (
+        reads-back _ _ _ _ _ (dueData e)
+            (baseline-fits (requestDue e) t (e .setup .measured)) (request-writable e t),
+        refl,
+        sym (master-requests e (may-request e t n k d)),
+      ))))
       (λ h. rw h tt)
 
   pub stop-carries : Carries e (stopOf e t .writes)
@@ -56,7 +77,11 @@ module _ (e : Endpoint) (t : ℕ) where
       bcase (isDropped (firstOf (stopFaults e t))) (λ h. rw h tt)
       (λ h. rw h (bcase (e .settings .slave)
       (λ m. subst (Carries e) (sym (cond-true (e .settings .slave) _ _ m)) tt)
-      (λ m. subst (Carries e) (sym (cond-false (e .settings .slave) _ _ m)) (disconnect-writable e t, refl, sym m))))
+      (λ m. subst (Carries e) (sym (cond-false (e .settings .slave) _ _ m)) (
+        reads-back _ _ _ _ _ (setupData (e .settings) K.Disconnect) (lit< tt) (disconnect-writable e t),
+        refl,
+        sym m,
+      ))))
 
   request-carries : (f : Fields) (body : List ℕ) → is (f .command) K.Refresh ≡ false → e .settings .slave ≡ true
       → Carries e (repliedOf e f body (firstOf (requestFaults e f body)))
@@ -67,7 +92,15 @@ module _ (e : Endpoint) (t : ℕ) where
       let n = neither (isDropped a) (is (f .command) K.Disconnect) h in
       let l : isBodyLength (length body) ≡ true = rw (request-width e f body (n .0))
       (setup-length (e .settings) (f .command)) in
-      rw h (reply-writable e t f (isDone a) (isEnded a) (length body) k (n .1) l, refl, sym m))
+      rw h (
+        record {
+          baseline = lit< tt;
+          subconnection = tt;
+          formed = reply-writable e t f (isDone a) (isEnded a) (length body) k (n .1) l;
+        },
+        refl,
+        sym m,
+      ))
 
   pub deliver-carries : (f : Fields) (body : List ℕ) → Carries e (deliverOf e t f body .writes)
   deliver-carries f body =

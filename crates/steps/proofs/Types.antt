@@ -52,7 +52,7 @@ sent-typed k application connection timestamp baseline body c b r =
     record { connection = c; baseline = b; subconnection = tt; bytes = r }
 
 -- OBL has 16 bits
-baseline-fits : (k : Command) (t measured : ℕ) → baselineOf k t measured < 65536
+pub baseline-fits : (k : Command) (t measured : ℕ) → baselineOf k t measured < 65536
 baseline-fits k t measured = go (is k K.RefreshGo)
   where
     go : (b : Bool) → cond b ((t - measured) % 65536) 0 < 65536

@@ -8,9 +8,8 @@ use lib.ListN.{length}
 use Rattle.frame.specs.declared.Command.the-variants as K
 use Rattle.frame.specs.declared.Fields.{Fields}
 use Rattle.frame.specs.Control.{is}
-use Rattle.frame.specs.Writing.{isWritable}
 use Rattle.words.specs.Bytes.{Bytes}
-use Rattle.frame.specs.RoundTrip.{Typed}
+use Rattle.frame.specs.RoundTrip.{Typed, Readable}
 use Rattle.endpoint.specs.declared.Settings.{Settings}
 use Rattle.endpoint.specs.declared.State.the-variants.{Close, Refresh, Terminate}
 use Rattle.endpoint.specs.declared.Pending.the-variants.{Nothing, Asked}
@@ -31,12 +30,11 @@ use Rattle.steps.specs.Calls.{outcome, dropped, disconnectOf, startOf, r
 use Rattle.steps.specs.Deliveries.{paddedOf, takeRefresh, takeRequest, takeReply}
 use Rattle.steps.specs.Steps.{begins, Call, act, send, deliver, show, stepOf}
 
--- a frame that is written can be written, and carries the endpoint's CID and its role's Application bit
+-- a frame that is written reads back, and carries the endpoint's CID and its role's Application bit
 abbrev pub Carries : Endpoint → Written → Type 0
 Carries e nothing = Unit {0}
 Carries e (frame f body) =
-    (isWritable f (length body) ≡ true) × (f .connection ≡ e .settings .connection)
-    × (f .application ≡ e .settings .slave)
+    Readable f body × (f .connection ≡ e .settings .connection) × (f .application ≡ e .settings .slave)
 Carries e (W.value bytes) = Unit {0}
 
 -- settings whose numbers fit into the words of setup requests
@@ -47,6 +45,12 @@ pub record SettingsFit (s : Settings) : Type 0 where
   pub age : s .age < 2 ^ 32
   pub words : 32 * s .masterwords + s .slavewords < 2 ^ 32
   pub station : s .station < 2 ^ 32
+
+-- settings whose times are a loaded list's
+pub record Ticks (s : Settings) : Type 0 where
+  pub interval : s .interval ≤ 65535
+  pub roundtrip : s .roundtrip ≤ 65535
+  pub age : s .age ≤ 65535
 
 -- a frame that is written has its numbers within their types
 abbrev pub IsTyped : Written → Type 0
@@ -140,7 +144,7 @@ pub record ReplyTaken (e : Endpoint) (t : ℕ) (f : Fields) (body : List ℕ) : 
 pub record StepLaws : Type 0 where
   -- settings never change
   pub keeps : (e : Endpoint) (t : ℕ) (call : Call) → stepOf e t call .endpoint .settings ≡ e .settings
-  -- a frame that is written can be written, and is the endpoint's
+  -- a frame that is written reads back, and is the endpoint's
   pub carries : (e : Endpoint) (t : ℕ) (call : Call) → Carries e (stepOf e t call .writes)
   pub typed : (e : Endpoint) (t : ℕ) (call : Call) → SettingsFit (e .settings) → HandsBytes call
       → IsTyped (stepOf e t call .writes)

@@ -1,10 +1,12 @@
 -- Every call on an endpoint, and what it comes to.
-use mathlib.Core.Bool.{Bool, true, false}
+use mathlib.Core.Bool.{Bool, true, false, cond}
 use mathlib.Core.List.{List}
 use Prim.Native.Nat.{ℕ}
 use Rattle.frame.specs.declared.Fields.{Fields}
 use Rattle.endpoint.specs.declared.Endpoint.{Endpoint}
-use Rattle.endpoint.specs.declared.Answer.the-variants.{Done}
+use Rattle.endpoint.specs.declared.Reason.the-variants as R
+use Rattle.endpoint.specs.declared.Answer.the-variants.{Done, Ended}
+use Rattle.endpoint.specs.Time.{isExpired, endedOf}
 use Rattle.steps.specs.Frames as W
 use Rattle.steps.specs.Calls.{Outcome, outcome, startOf, sendOf, stopOf, restartOf, setNotReadyOf, shownOf}
 use Rattle.steps.specs.Deliveries.{deliverOf}
@@ -41,3 +43,7 @@ stepOf e t (act a) = actOf e t a
 stepOf e t (send value) = sendOf e t value
 stepOf e t (deliver f body) = deliverOf e t f body
 stepOf e t show = outcome Done e (W.value (shownOf e))
+
+-- the clock step first: number 9
+abbrev pub callOf : Endpoint → ℕ → Call → Outcome
+callOf e t call = cond (isExpired e t) (outcome (Ended R.Expired) (endedOf e) W.nothing) (stepOf e t call)

@@ -1,5 +1,3 @@
 -- Two devices and the bytes between them, in reading order.
 pub mod Runs
 pub mod Demand
-pub mod Requests
-pub mod Cases

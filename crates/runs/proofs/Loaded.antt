@@ -18,7 +18,7 @@ use Rattle.endpoint.specs.declared.Reason.the-variants as R
 use Rattle.endpoint.specs.declared.Answer.the-variants.{Done, Dropped}
 use Rattle.endpoint.specs.Answers.{isDone}
 use Rattle.transitions.specs.ByCall.{freshOf}
-use Rattle.steps.specs.Laws.{SettingsFit}
+use Rattle.steps.specs.Laws.{SettingsFit, Ticks}
 use Rattle.steps.proofs.Keeps.{bcase}
 use Rattle.settings.specs.Words.{restOf, isTicks, hasKinds}
 use Rattle.settings.specs.Lists.{wordOf, connectionAt, settingsAt, isConnectionAt, isNewAt, areConnections, countOf}
@@ -29,8 +29,7 @@ use Rattle.device.specs.declared.Entry.the-variants.{At}
 use Rattle.device.specs.declared.load.Loaded.{Loaded}
 use Rattle.device.specs.Tables.{noSettings, endpointAt, entryOf, freshUpTo, unloaded}
 use Rattle.device.specs.Loading.{loadedOf}
-use Rattle.link.specs.Fresh.{Ticks}
-use Rattle.devices.proofs.Tables.{entry-found}
+use Rattle.runs.proofs.Tables.{Like, like-at, like-length, entry-found}
 
 -- ---- lists
 are-at : (ws : List ℕ) (n i : ℕ) → areConnections ws n ≡ true → i < n
@@ -158,6 +157,12 @@ pub record Sound (d : Device) : Type 0 where
   pub length8 : length (d .endpoints) ≡ 8
   pub fits : (i : ℕ) → i < d .count → i < 8 → SettingsFit (endpointAt (d .endpoints) i .settings)
 
+pub sound-like : {d d′ : Device} → Like d′ d → Sound d → Sound d′
+sound-like {d} {d′} l s = record {
+  length8 = like-length l ∙ s .length8;
+  fits = λ i c k. subst SettingsFit (sym (like-at l i)) (s .fits i (subst (λ (m : ℕ). i < m) (l .counts) c) k);
+}
+
 -- what holds of the CID's entry n
 pub record Table (d : Device) (cid n : ℕ) : Type 0 where
   pub entry : entryOf cid (d .count) (d .endpoints) ≡ At n
@@ -173,7 +178,7 @@ pub record Table (d : Device) (cid n : ℕ) : Type 0 where
 are-connections : (ws : List ℕ) → isList ws ≡ true → areConnections ws (countOf ws) ≡ true
 unfolding isList
 are-connections ws h =
-    and-right (leb (countOf ws) 8) _ (and-right (leb 1 (countOf ws)) _ (and-right (eqb (length ws % 7) 0) _ h))
+    and-right (eqb (length ws % 7) 0 && leb 1 (countOf ws) && leb (countOf ws) 8) (areConnections ws (countOf ws)) h
 
 tableOf : List ℕ → Device
 tableOf ws = record { last = Never; count = countOf ws; endpoints = freshUpTo ws (countOf ws) }

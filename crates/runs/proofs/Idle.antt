@@ -16,10 +16,9 @@ use Rattle.endpoint.specs.Time.{isExpired, endedOf, afterTick}
 use Rattle.transitions.specs.ByCall.{startedOf, restartedOf}
 use Rattle.steps.specs.Frames.{nothing}
 use Rattle.steps.specs.Calls.{outcome, dropped}
-use Rattle.steps.specs.Steps.{Act, start, restart, Call, act, stepOf}
+use Rattle.steps.specs.Steps.{Act, start, restart, Call, act, stepOf, callOf}
 use Rattle.steps.proofs.Dispatch.{cond-true, cond-false}
 use Rattle.steps.proofs.Keeps.{bcase}
-use Rattle.link.specs.Runs.{callOf}
 
 -- a call that is refused, and that changes and writes nothing else
 pub record Idle (e : Endpoint) (t : ℕ) : Type 0 where

@@ -1,7 +1,7 @@
 -- One device over a list of calls, loading among them (document 02, note 3): the count of setup requests that a
 -- connection keeps is the count of those that it wrote since its last start or loading, and at most 45.
 use mathlib.Core.Path.{_≡_}
-use mathlib.Core.Bool.{Bool, true, false, _&&_, cond}
+use mathlib.Core.Bool.{Bool, false, _&&_, cond}
 use mathlib.Core.List.{List, [], _∷_}
 use Prim.Native.Nat.{ℕ, suc, _≤_}
 use lib.Dec.{eqb}
@@ -14,14 +14,9 @@ use Rattle.steps.specs.Frames.{isRequest}
 use Rattle.steps.specs.Steps.{begins}
 use Rattle.device.specs.declared.Device.{Device}
 use Rattle.device.specs.Tables.{endpointAt, unloaded}
-use Rattle.device.specs.Loading.{loadedOf}
 use Rattle.device.specs.Calls.{Result}
-use Rattle.devices.specs.Runs.{Call, act, send, deliver, show, callIn, onBus, handsBytes, isAt}
-
--- a settings list that is loaded; or a call with its clock reading and the length of the output lent to it
-pub data Step : Type 0 where
-  load : List ℕ → Step
-  call : (clock room : ℕ) → Call → Step
+use Rattle.runs.specs.Steps.{Call, act, send, deliver, show, Step, load, call, stepIn, isAt}
+use Rattle.runs.specs.Bus.{onBus}
 
 -- ---- the count as the answers and the bytes on the bus tell it
 -- bytes that the reader takes for a setup request: S-Disconnect is none, nor is a reply
@@ -39,9 +34,10 @@ isStartOf n (show k) = false
 abbrev pub wroteRequest : ℕ → Result → Bool
 wroteRequest n r = isAt (r .entry) n && isRequestIn (readingOf (onBus (r .writes)))
 
--- a start of the entry that is done begins anew, each request written adds one
-abbrev pub countAfter : ℕ → Call → Result → ℕ → ℕ
-countAfter n c r count =
+-- a loading begins anew, and a start of the entry that is done; each request written adds one
+abbrev pub countAfter : ℕ → Step → Result → ℕ → ℕ
+countAfter n (load ws) r count = 0
+countAfter n (call t room c) r count =
     cond (isStartOf n c && isDone (r .answer)) 0 (cond (wroteRequest n r) (suc count) count)
 
 -- ---- a device, and the count of one entry
@@ -53,28 +49,17 @@ abbrev pub watched : Device → ℕ → Watched
 watched d count = record { device = d; count = count }
 
 abbrev pub afterStep : ℕ → Watched → Step → Watched
-afterStep n x (load ws) = watched (loadedOf ws .device) 0
-afterStep n x (call t room c) =
-    let r = callIn (x .device) t room c in watched (r .device) (countAfter n c r (x .count))
+afterStep n x s = let r = stepIn (x .device) s in watched (r .device) (countAfter n s r (x .count))
 
 unfoldable pub afterSteps : ℕ → Watched → List Step → Watched
 afterSteps n x [] = x
 afterSteps n x (s ∷ l) = afterSteps n (afterStep n x s) l
-
--- a value and what came from the bus are bytes
-abbrev pub givesBytes : Step → Bool
-givesBytes (load ws) = true
-givesBytes (call t room c) = handsBytes c
-
-unfoldable pub allGiveBytes : List Step → Bool
-allGiveBytes [] = true
-allGiveBytes (s ∷ l) = givesBytes s && allGiveBytes l
 
 -- for every entry, of a device never loaded, after every list
 abbrev pub watchedAfter : ℕ → List Step → Watched
 watchedAfter n l = afterSteps n (watched unloaded 0) l
 
 abbrev pub RequestCount : Type 0
-RequestCount = (n : ℕ) (l : List Step) → allGiveBytes l ≡ true
+RequestCount = (n : ℕ) (l : List Step)
     → (endpointAt (watchedAfter n l .device .endpoints) n .setup .requests ≡ watchedAfter n l .count)
     × (watchedAfter n l .count ≤ requestLimit)

@@ -7,7 +7,7 @@ use Rattle.frame.specs.Writing.{headBytes, withCheckWord, twice, subBytes, fram
 use Rattle.steps.specs.Frames.{setupData}
 use Rattle.settings.specs.Lists.{settingsAt}
 use Rattle.device.specs.Tables.{endpointAt, unloaded, tickedAll}
-use Rattle.devices.specs.Cases.{CasesHold}
+use Rattle.cases.specs.Cases.{CasesHold}
 
 pub cases-hold : CasesHold
 unfolding controlOf hasForm hasCheckWord fieldsIn readingOfCopies readingOf headBytes withCheckWord twice subBytes

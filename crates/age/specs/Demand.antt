@@ -13,7 +13,8 @@ use Rattle.device.specs.Tables.{endpointAt, entryOf}
 use Rattle.device.specs.Loading.{loadedOf}
 use Rattle.link.specs.Runs.{Clocks, Show, showAt}
 use Rattle.link.specs.Fresh.{boundOf}
-use Rattle.devices.specs.Runs.{Event, isRefreshOf, Sent, sentAt, Run, afterAll, begun}
+use Rattle.runs.specs.Bus.{isRefreshOf}
+use Rattle.age.specs.Runs.{Event, Sent, sentAt, Run, afterAll, begun}
 
 -- loaded with answer 0, a device holds the CID at an entry, as the slave or as the master
 pub record Holds (list : List ℕ) (cid : ℕ) (slave : Bool) : Type 0 where

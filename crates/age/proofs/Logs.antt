@@ -1,39 +1,36 @@
 -- The log of frames as bytes, and as fields and bodies: the same frames at the same places.
-use mathlib.Core.Path.{_≡_, refl, sym, ap, ap₂, _∙_}
+use mathlib.Core.Path.{_≡_, refl, sym, ap, ap₂, subst, _∙_}
 use mathlib.Core.Bool.{Bool, true, false, _&&_, cond, Bool·beq}
 use mathlib.Core.List.{List, [], _∷_, _++_, map}
-use Prim.Native.Nat.{ℕ, zero, suc, _+_, _<_}
+use Prim.Native.Nat.{ℕ, zero, suc, _+_, _≤_, _<_}
 use native.Mathlib.Nat.{not-suc-le-zero, le-of-suc-le-suc}
-use lib.Dec.{eqb, ltb}
+use lib.Dec.{eqb}
 use lib.ListN.{length}
-use borrow.Author.Tests.{eq-eqb, ltb-true}
+use lib.Seq.{slice}
+use borrow.Author.Tests.{eq-eqb}
 use Rattle.frame.specs.declared.Command.the-variants as K
 use Rattle.frame.specs.declared.Fields.{Fields}
+use Rattle.frame.specs.declared.Reading.the-variants.{Frame}
 use Rattle.frame.specs.Control.{codeOf, is, subconnectionBits}
 use Rattle.words.specs.Bytes.{same}
+use Rattle.frame.specs.Reading.{readingOf}
 use Rattle.frame.specs.Writing.{frameBytes}
-use Rattle.words.specs.Bytes.{Bytes, none, more}
-use Rattle.frame.specs.RoundTrip.{Writable}
+use Rattle.frame.specs.RoundTrip.{Readable}
 use mathlib.Mathlib.Data.Bool.Basic.{and-elim-left as and-left, and-elim-right as and-right, and-intro as both}
 use Rattle.words.proofs.Alike.{same-refl, same-eq}
 use Rattle.frame.proofs.ReadBack.{round-trip}
+use Rattle.steps.proofs.Keeps.{bcase}
 use Rattle.link.specs.Runs as L
 use Rattle.link.proofs.Entries.{fields-eq}
-use Rattle.devices.specs.Runs.{isOf, isRefreshIn, isFrameOf, isRefreshOf, areBytes, Sent, sentAt, lastFrom}
-use Rattle.devices.specs.Runs.{lastOf}
-
-pub bytes-of : (s : List ℕ) → areBytes s ≡ true → Bytes s
-unfolding areBytes
-bytes-of [] h = none
-bytes-of (b ∷ s) h = more (ltb-true b 256 (and-left (ltb b 256) (areBytes s) h))
-    (bytes-of s (and-right (ltb b 256) (areBytes s) h))
+use Rattle.runs.specs.Bus.{isOf, isRefreshIn, isFrameOf, isRefreshOf}
+use Rattle.age.specs.Runs.{Sent, sentAt, lastFrom, lastOf}
 
 -- ---- a written frame, as the reader takes it
-pub frame-of : (cid : ℕ) (f : Fields) (body : List ℕ) → Writable f body
+pub frame-of : (cid : ℕ) (f : Fields) (body : List ℕ) → Readable f body
     → isFrameOf cid (frameBytes f body) ≡ eqb (f .connection) cid
 frame-of cid f body w = ap (isOf cid) (round-trip .there f body w .0)
 
-pub refresh-of : (cid : ℕ) (f : Fields) (body : List ℕ) → Writable f body
+pub refresh-of : (cid : ℕ) (f : Fields) (body : List ℕ) → Readable f body
     → isRefreshOf cid (frameBytes f body) ≡ (eqb (f .connection) cid && is (f .command) K.Refresh)
 refresh-of cid f body w = ap (isRefreshIn cid) (round-trip .there f body w .0)
 
@@ -60,9 +57,9 @@ sent-at [] i h = absurd (not-suc-le-zero h)
 sent-at (x ∷ l) zero h = refl
 sent-at (x ∷ l) (suc i) h = sent-at l i (le-of-suc-le-suc h)
 
--- every frame in the log can be written, and is of the CID
+-- every frame in the log reads back, and is of the CID
 pub record Good (cid : ℕ) (w : L.Entry) : Type 0 where
-  pub writable : Writable (w .fields) (w .body)
+  pub readable : Readable (w .fields) (w .body)
   pub has : w .fields .connection ≡ cid
 
 pub data AllGood (cid : ℕ) : List L.Entry → Type 0 where
@@ -98,7 +95,7 @@ iff true b f g = sym (f refl)
 iff false true f g = g refl
 iff false false f g = refl
 
-same-frames : (f g : Fields) (b c : List ℕ) → Writable f b → Writable g c
+same-frames : (f g : Fields) (b c : List ℕ) → Readable f b → Readable g c
     → same (frameBytes f b) (frameBytes g c) ≡ (L.sameFields f g && same b c)
 same-frames f g b c v w =
     iff (same (frameBytes f b) (frameBytes g c)) (L.sameFields f g && same b c)
@@ -109,16 +106,55 @@ same-frames f g b c v w =
     let q = same-eq b c (and-right (L.sameFields f g) (same b c) h) in
     ap (same (frameBytes f b)) (sym (ap₂ frameBytes p q)) ∙ same-refl (frameBytes f b))
 
-last-from : (cid n : ℕ) (f : Fields) (b : List ℕ) → Writable f b → (l : List L.Entry) → AllGood cid l → (found : ℕ)
+last-from : (cid n : ℕ) (f : Fields) (b : List ℕ) → Readable f b → (l : List L.Entry) → AllGood cid l → (found : ℕ)
     → lastFrom n (frameBytes f b) (toLog l) found ≡ L.lastFrom n f b l found
 unfolding lastFrom L.lastFrom toLog toSent
 last-from cid n f b w [] no-more found = refl
 last-from cid n f b w (x ∷ l) (and-more g a) found =
     ap (λ (t : Bool). lastFrom (suc n) (frameBytes f b) (toLog l) (cond t (suc n) found))
-    (same-frames f (x .fields) b (x .body) w (g .writable))
+    (same-frames f (x .fields) b (x .body) w (g .readable))
     ∙ last-from cid (suc n) f b w l a _
 
-pub last-of : (cid : ℕ) (f : Fields) (b : List ℕ) → Writable f b → (l : List L.Entry) → AllGood cid l
+pub last-of : (cid : ℕ) (f : Fields) (b : List ℕ) → Readable f b → (l : List L.Entry) → AllGood cid l
     → lastOf (frameBytes f b) (toLog l) ≡ L.lastOf f b l
 unfolding lastOf L.lastOf
 last-of cid f b w l a = last-from cid 0 f b w l a 0
+
+-- ---- bytes that were written are the writing of what the reader makes of them
+pub record WritingOf (s : List ℕ) (f : Fields) (body : List ℕ) : Type 0 where
+  pub readable : Readable f body
+  pub is : frameBytes f body ≡ s
+
+-- some entry has these bytes
+record Origin (s : List ℕ) : Type 0 where
+  fields : Fields
+  body : List ℕ
+  writing : WritingOf s fields body
+
+origin : (cid n : ℕ) (s : List ℕ) (l : List L.Entry) → AllGood cid l → 1 ≤ lastFrom n s (toLog l) 0 → Origin s
+unfolding lastFrom toLog toSent
+origin cid n s [] no-more h = absurd (not-suc-le-zero h)
+origin cid n s (x ∷ l) (and-more g a) h =
+    bcase (same s (frameBytes (x .fields) (x .body)))
+    (λ q. record {
+      fields = x .fields;
+      body = x .body;
+      writing = record { readable = g .readable; is = sym (same-eq s (frameBytes (x .fields) (x .body)) q) };
+    })
+    (λ q. origin cid (suc n) s l a
+    (subst (λ (b : Bool). 1 ≤ lastFrom (suc n) s (toLog l) (cond b (suc n) 0)) q h))
+
+pub writing-of : (cid : ℕ) (s : List ℕ) (l : List L.Entry) → AllGood cid l → 1 ≤ lastOf s (toLog l)
+    → (f : Fields) (from to : ℕ) → readingOf s ≡ Frame f from to → WritingOf s f (slice from to s)
+unfolding lastOf
+writing-of cid s l a h f from to is-frame =
+    let o = origin cid 0 s l a h in
+    let w = o .writing in
+    let back = round-trip .there (o .fields) (o .body) (w .readable) in
+    let q : Frame (o .fields) 20 (20 + length (o .body)) ≡ Frame f from to =
+    sym (back .0) ∙ ap readingOf (w .is) ∙ is-frame in
+    let p : o .fields ≡ f = cc in
+    let start : 20 ≡ from = cc in
+    let end : 20 + length (o .body) ≡ to = cc in
+    let b : o .body ≡ slice from to s = sym (back .1) ∙ (λ i. slice (start i) (end i) (w .is i)) in
+    subst (λ (x : List ℕ). WritingOf s f x) b (subst (λ (x : Fields). WritingOf s x (o .body)) p w)

@@ -15,17 +15,18 @@ use Rattle.settings.specs.Lists.{connectionAt, settingsAt, isConnectionAt, isNe
 use Rattle.device.specs.Tables.{endpointAt, findFrom, entryOf, freshUpTo, tickedAll}
 use Rattle.steps.specs.Steps.{start, setNotReady}
 use Rattle.link.specs.Runs as L
-use Rattle.devices.specs.Runs.{Call, act, send, deliver, show, Event, areBytes, lastFrom, lastOf, Run, afterAll}
-use Rattle.devices.specs.Demand.{Holds, runOf}
+use Rattle.runs.specs.Steps.{Call, act, send, deliver, show, call}
+use Rattle.age.specs.Runs.{Event, lastFrom, lastOf, Run, afterAll}
+use Rattle.age.specs.Demand.{Holds, runOf}
 
 list : ℕ → List ℕ
 list role = 0x10000102 ∷ 0x20000103 ∷ role ∷ 0x40000064 ∷ 0x50000032 ∷ 0x60000032 ∷ 0x70000007 ∷ []
 
 at-master : ℕ → Call → Event
-at-master t call = record { slave = false; clock = t; room = 248; call = call }
+at-master t c = record { slave = false; step = call t 248 c }
 
 at-slave : ℕ → Call → Event
-at-slave t call = record { slave = true; clock = t; room = 248; call = call }
+at-slave t c = record { slave = true; step = call t 248 c }
 
 -- the slave's clock is 5,000 ticks ahead of the master's
 clocks : L.Clocks
@@ -86,7 +87,7 @@ unfolding list cid connectionAt settingsAt isConnectionAt isNewAt areConnections
 slave = record { done = refl; entry = 0; there = refl; role = refl }
 
 allowed : run .allowed ≡ true
-unfolding run line exchange answered data-of clocks at-master at-slave list cid afterAll areBytes lastFrom lastOf
+unfolding run line exchange answered data-of clocks at-master at-slave list cid afterAll lastFrom lastOf
     endpointAt findFrom entryOf freshUpTo tickedAll connectionAt settingsAt isConnectionAt isNewAt areConnections isList
     setupData controlOf hasForm hasCheckWord fieldsIn readingOfCopies readingOf headBytes withCheckWord twice
     subBytes frameBytes isWritable bitStep bitSteps byteStep crcFrom crc
@@ -94,7 +95,7 @@ allowed = refl
 
 shown : run .shows
     ≡ (L.shown true 5070 (1 ∷ 2 ∷ 3 ∷ 4 ∷ []) 13 13 ∷ L.shown false 5080 (5 ∷ 6 ∷ 7 ∷ 8 ∷ []) 14 14 ∷ [])
-unfolding run line exchange answered data-of clocks at-master at-slave list cid afterAll areBytes lastFrom lastOf
+unfolding run line exchange answered data-of clocks at-master at-slave list cid afterAll lastFrom lastOf
     endpointAt findFrom entryOf freshUpTo tickedAll connectionAt settingsAt isConnectionAt isNewAt areConnections isList
     setupData controlOf hasForm hasCheckWord fieldsIn readingOfCopies readingOf headBytes withCheckWord twice
     subBytes frameBytes isWritable bitStep bitSteps byteStep crcFrom crc

@@ -1,7 +1,7 @@
 -- Demand 3: every list of calls on two devices has a list of calls on the two endpoints of the CID that writes, takes
 -- and shows the same, so the theorem on endpoints gives the one on devices.
 use mathlib.Core.Path.{_≡_, refl, sym, ap, ap₂, subst, _∙_}
-use mathlib.Core.Bool.{Bool, true, false, _&&_, not, cond}
+use mathlib.Core.Bool.{Bool, true, false, _&&_, not, cond, false≢true}
 use mathlib.Core.List.{List, [], _∷_, _++_}
 use Prim.Native.Nat.{ℕ, suc, _+_, _-_, _≤_, _<_}
 use native.Mathlib.Omega.{arith}
@@ -16,6 +16,7 @@ use Rattle.endpoint.specs.declared.Endpoint.{Endpoint}
 use Rattle.endpoint.specs.Answers.{isDone}
 use Rattle.endpoint.specs.Time.{lastReading}
 use Rattle.steps.specs.Steps as S
+use Rattle.steps.proofs.Dispatch.{cond-true, cond-false}
 use Rattle.steps.proofs.Keeps.{bcase}
 use Rattle.device.specs.declared.Device.{Device}
 use Rattle.device.specs.Tables.{endpointAt}
@@ -25,14 +26,16 @@ use Rattle.device.specs.Loading.{loadedOf}
 use Rattle.link.specs.Runs as L
 use Rattle.link.specs.Fresh as F
 use Rattle.link.proofs.AgeProof.{age-theorem}
-use Rattle.devices.specs.Runs.{Call, Event, callIn, Sent, sentAt, logged, mayDeliver, handsBytes, tookBy}
-use Rattle.devices.specs.Runs.{shownBy, Run, deviceAt, afterCall, resultOf, afterEvent, afterAll, begun}
-use Rattle.devices.specs.Demand.{Holds, settingsIn, ItsSend, Fresh, runOf, Demand, Silence}
-use Rattle.devices.proofs.Tables.{Like, like-trans}
-use Rattle.devices.proofs.Loaded.{Table, loaded}
-use Rattle.devices.proofs.Logs.{refresh-of, toSent, toLog, toLog-append, toLog-length, sent-at, AllGood, no-more}
-use Rattle.devices.proofs.Logs.{good-append, good-at}
-use Rattle.devices.proofs.EachCall.{matches}
+use Rattle.runs.specs.Steps.{Call, Step, load, call, callIn}
+use Rattle.runs.proofs.Tables.{Like, like-trans}
+use Rattle.runs.proofs.Loaded.{Table, loaded}
+use Rattle.runs.proofs.Reaching.{reach}
+use Rattle.age.specs.Runs.{Event, Sent, sentAt, logged, mayDeliver, neverFalls, tookBy, shownBy, Run, deviceAt}
+use Rattle.age.specs.Runs.{isAccepted, afterCall, afterStep, afterAll, begun}
+use Rattle.age.specs.Demand.{Holds, settingsIn, ItsSend, Fresh, runOf, Demand, Silence}
+use Rattle.age.proofs.Logs.{refresh-of, toSent, toLog, toLog-append, toLog-length, sent-at, AllGood, no-more}
+use Rattle.age.proofs.Logs.{good-append, good-at}
+use Rattle.age.proofs.EachCall.{matches}
 
 reading-limit : (last : Timestamp) (t : ℕ) → isReading last t ≡ true → leb t lastReading ≡ true
 reading-limit Never t h = h
@@ -45,43 +48,43 @@ record Side (d₀ : Device) (n : ℕ) (d : Device) (e : Endpoint) (took took′ 
   took-same : took ≡ took′
 
 -- a call at that end, and the one that does the same to the endpoint
-record Both (cid : ℕ) (slave : Bool) (m : ℕ) (d₀ : Device) (n : ℕ) (d : Device) (t room : ℕ) (call : Call)
+record Both (cid : ℕ) (slave : Bool) (m : ℕ) (d₀ : Device) (n : ℕ) (d : Device) (t room : ℕ) (c : Call)
     (sent : List Sent) (log : List L.Entry)
     (e : Endpoint) (took took′ : ℕ) : Type 0 where
   by : S.Call
-  side : Side d₀ n (callIn d t room call .device) (L.callOf e t by .endpoint)
-      (tookBy cid sent call (isDone (callIn d t room call .answer)) took)
-      (L.tookBy log by (L.callOf e t by .answer) took′)
-  logs : logged cid slave m call (callIn d t room call .writes) ≡ toLog
-      (L.logged slave m by (L.callOf e t by .writes))
-  good : AllGood cid (L.logged slave m by (L.callOf e t by .writes))
-  shows : shownBy cid slave d m took (length sent) call (callIn d t room call)
-      ≡ L.shownBy slave m took′ (length log) by (L.callOf e t by .endpoint)
+  side : Side d₀ n (callIn d t room c .device) (S.callOf e t by .endpoint)
+      (tookBy cid sent c (isDone (callIn d t room c .answer)) took)
+      (L.tookBy log by (S.callOf e t by .answer) took′)
+  logs : logged cid slave m c (callIn d t room c .writes) ≡ toLog
+      (L.logged slave m by (S.callOf e t by .writes))
+  good : AllGood cid (L.logged slave m by (S.callOf e t by .writes))
+  shows : shownBy cid slave d m took (length sent) c (callIn d t room c)
+      ≡ L.shownBy slave m took′ (length log) by (S.callOf e t by .endpoint)
   may : L.mayDeliver log by ≡ true
 
 one-step : (cid : ℕ) (slave : Bool) (m : ℕ) (d₀ : Device) (n : ℕ) → Table d₀ cid n
-    → (d : Device) (t room : ℕ) (call : Call) (sent : List Sent)
+    → (d : Device) (t room : ℕ) (c : Call) (sent : List Sent)
     (log : List L.Entry) (e : Endpoint) (took took′ : ℕ)
     → Side d₀ n d e took took′ → sent ≡ toLog log → AllGood cid log
-    → isReading (d .last) t ≡ true → handsBytes call ≡ true → mayDeliver cid sent call ≡ true
-    → Both cid slave m d₀ n d t room call sent log e took took′
-one-step cid slave m d₀ n T d t room call sent log e took took′ S q good reading bytes may =
-    subst (λ (x : ℕ). Both cid slave m d₀ n d t room call sent log e took x) (S .took-same)
-    (subst (λ (x : Endpoint). Both cid slave m d₀ n d t room call sent log x took took) (S .here)
-    (subst (λ (x : List Sent). Both cid slave m d₀ n d t room call x log (endpointAt (d .endpoints) n) took took)
+    → isReading (d .last) t ≡ true → mayDeliver cid sent c ≡ true
+    → Both cid slave m d₀ n d t room c sent log e took took′
+one-step cid slave m d₀ n T d t room c sent log e took took′ S q good reading may =
+    subst (λ (x : ℕ). Both cid slave m d₀ n d t room c sent log e took x) (S .took-same)
+    (subst (λ (x : Endpoint). Both cid slave m d₀ n d t room c sent log x took took) (S .here)
+    (subst (λ (x : List Sent). Both cid slave m d₀ n d t room c x log (endpointAt (d .endpoints) n) took took)
     (sym q)
-    (let M = matches cid slave m d₀ n T d (S .like) t room reading log good took call bytes
-    (ap (λ (x : List Sent). mayDeliver cid x call) (sym q) ∙ may) in
+    (let M = matches cid slave m d₀ n T d (S .like) t room reading log good took (reach d t room c)
+    (ap (λ (x : List Sent). mayDeliver cid x c) (sym q) ∙ may) in
     record {
       by = M .by;
       side = record { like = like-trans (M .like) (S .like); here = M .endpoint; took-same = M .takes };
       logs = M .logs;
       good = M .good;
-      shows = ap (λ (i : ℕ). shownBy cid slave d m took i call (callIn d t room call)) (toLog-length log) ∙ M .shows;
+      shows = ap (λ (i : ℕ). shownBy cid slave d m took i c (callIn d t room c)) (toLog-length log) ∙ M .shows;
       may = M .may;
     })))
 
-module _ (wm ws : List ℕ) (cid : ℕ) (hm : Holds wm cid false) (hs : Holds ws cid true) (c : L.Clocks) where
+module _ (wm ws : List ℕ) (cid : ℕ) (hm : Holds wm cid false) (hs : Holds ws cid true) (clocks : L.Clocks) where
   tm : Table (loadedOf wm .device) cid (hm .entry)
   tm = loaded wm cid (hm .entry) (hm .done) (hm .there)
 
@@ -98,50 +101,44 @@ module _ (wm ws : List ℕ) (cid : ℕ) (hm : Holds wm cid false) (hs : Holds ws
     allowed : x .allowed ≡ true
 
   -- what the list's premise says of one call
-  record Kept (l : Run) (v : Event) : Type 0 where
+  record Kept (l : Run) (slave : Bool) (t : ℕ) (c : Call) : Type 0 where
     before : l .allowed ≡ true
-    bytes : handsBytes (v .call) ≡ true
-    may : mayDeliver cid (l .log) (v .call) ≡ true
-    later : leb (l .latest) (L.momentOf c (v .slave) (v .clock)) ≡ true
+    may : mayDeliver cid (l .log) c ≡ true
+    later : neverFalls l (L.momentOf clocks slave t) ≡ true
 
-  kept : (l : Run) (v : Event) (r : Result) → afterCall cid c l v r .allowed ≡ true → Kept l v
-  kept l v r h =
+  kept : (l : Run) (slave : Bool) (t : ℕ) (c : Call) (r : Result) → afterCall cid clocks l slave t c r .allowed ≡ true
+      → Kept l slave t c
+  kept l slave t c r h =
       let a = and-right (l .allowed) _ h in
-      let b = and-right (handsBytes (v .call)) _ a in
       record {
         before = and-left (l .allowed) _ h;
-        bytes = and-left (handsBytes (v .call)) _ a;
-        may = and-left (mayDeliver cid (l .log) (v .call)) _ b;
-        later = and-right (mayDeliver cid (l .log) (v .call)) _ b;
+        may = and-left (mayDeliver cid (l .log) c) _ a;
+        later = and-right (mayDeliver cid (l .log) c) _ a;
       }
 
-  still-allowed : (l : Run) (x : L.Link) (v : Event) (k : S.Call) → Sim l x → Kept l v → L.mayDeliver (x .log) k ≡ true
-      → leb (v .clock) lastReading ≡ true
+  still-allowed : (l : Run) (x : L.Link) (slave : Bool) (t : ℕ) (c : Call) (by : S.Call) → Sim l x → Kept l slave t c
+      → L.mayDeliver (x .log) by ≡ true → leb t lastReading ≡ true
       → (x .allowed &&
-      (L.mayDeliver (x .log) k && (leb (x .latest) (L.momentOf c (v .slave) (v .clock)) && leb (v .clock) lastReading)))
+      (L.mayDeliver (x .log) by && (leb (x .latest) (L.momentOf clocks slave t) && leb t lastReading)))
       ≡ true
-  still-allowed l x v k S kv h lim =
+  still-allowed l x slave t c by S kv h lim =
       both (S .allowed)
-      (both h (both (ap (λ (i : ℕ). leb i (L.momentOf c (v .slave) (v .clock))) (sym (S .latest)) ∙ kv .later) lim))
+      (both h (both (ap (λ (i : ℕ). leb i (L.momentOf clocks slave t)) (sym (S .latest)) ∙ kv .later) lim))
 
   record Next (l′ : Run) (x : L.Link) : Type 0 where
     event : L.Event
-    sim : Sim l′ (L.afterEvent c x event)
+    sim : Sim l′ (L.afterEvent clocks x event)
 
-  abbrev eventOf : Bool → ℕ → ℕ → Call → Event
-  eventOf slave t room call = record { slave = slave; clock = t; room = room; call = call }
+  abbrev called : Run → Bool → ℕ → ℕ → Call → Run
+  called l slave t room c = afterCall cid clocks l slave t c (callIn (deviceAt l slave) t room c)
 
-  next : (l : Run) (x : L.Link) (slave : Bool) (t room : ℕ) (call : Call) → Sim l x
-      → isReading (deviceAt l slave .last) t ≡ true
-      → afterCall cid c l (eventOf slave t room call) (resultOf l (eventOf slave t room call)) .allowed ≡ true
-      → Next (afterCall cid c l (eventOf slave t room call) (resultOf l (eventOf slave t room call))) x
-  next l x false t room call S reading h =
-      let v = eventOf false t room call in
-      let m = L.momentOf c false t in
-      let kv = kept l v (callIn (l .master) t room call) h in
-      let B = one-step cid false m (loadedOf wm .device) (hm .entry) tm (l .master) t room call (l .log) (x .log)
-      (x .master)
-      (l .masterTook) (x .masterTook) (S .sideM) (S .log) (S .good) reading (kv .bytes) (kv .may) in
+  next : (l : Run) (x : L.Link) (slave : Bool) (t room : ℕ) (c : Call) → Sim l x
+      → isAccepted l slave t ≡ true → called l slave t room c .allowed ≡ true → Next (called l slave t room c) x
+  next l x false t room c S reading h =
+      let kv = kept l false t c (callIn (l .master) t room c) h in
+      let B = one-step cid false (L.momentOf clocks false t) (loadedOf wm .device) (hm .entry) tm (l .master) t room c (l .log)
+      (x .log) (x .master)
+      (l .masterTook) (x .masterTook) (S .sideM) (S .log) (S .good) reading (kv .may) in
       record {
         event = record { slave = false; clock = t; call = B .by };
         sim = record {
@@ -151,16 +148,14 @@ module _ (wm ws : List ℕ) (cid : ℕ) (hm : Holds wm cid false) (hs : Holds ws
           good = good-append cid (S .good) (B .good);
           shows = ap₂ _++_ (S .shows) (B .shows);
           latest = refl;
-          allowed = still-allowed l x v (B .by) S kv (B .may) (reading-limit (l .master .last) t reading);
+          allowed = still-allowed l x false t c (B .by) S kv (B .may) (reading-limit (l .master .last) t reading);
         };
       }
-  next l x true t room call S reading h =
-      let v = eventOf true t room call in
-      let m = L.momentOf c true t in
-      let kv = kept l v (callIn (l .slave) t room call) h in
-      let B = one-step cid true m (loadedOf ws .device) (hs .entry) ts (l .slave) t room call (l .log) (x .log)
-      (x .slave)
-      (l .slaveTook) (x .slaveTook) (S .sideS) (S .log) (S .good) reading (kv .bytes) (kv .may) in
+  next l x true t room c S reading h =
+      let kv = kept l true t c (callIn (l .slave) t room c) h in
+      let B = one-step cid true (L.momentOf clocks true t) (loadedOf ws .device) (hs .entry) ts (l .slave) t room c (l .log)
+      (x .log) (x .slave)
+      (l .slaveTook) (x .slaveTook) (S .sideS) (S .log) (S .good) reading (kv .may) in
       record {
         event = record { slave = true; clock = t; call = B .by };
         sim = record {
@@ -170,7 +165,7 @@ module _ (wm ws : List ℕ) (cid : ℕ) (hm : Holds wm cid false) (hs : Holds ws
           good = good-append cid (S .good) (B .good);
           shows = ap₂ _++_ (S .shows) (B .shows);
           latest = refl;
-          allowed = still-allowed l x v (B .by) S kv (B .may) (reading-limit (l .slave .last) t reading);
+          allowed = still-allowed l x true t c (B .by) S kv (B .may) (reading-limit (l .slave .last) t reading);
         };
       }
 
@@ -183,50 +178,58 @@ module _ (wm ws : List ℕ) (cid : ℕ) (hm : Holds wm cid false) (hs : Holds ws
   -- ---- a list of calls on the two endpoints that goes along
   record Lifted (l : Run) : Type 0 where
     events : List L.Event
-    sim : Sim l (L.afterAll c (L.begun sm ss) events)
+    sim : Sim l (L.afterAll clocks (L.begun sm ss) events)
 
   one-more : (x : L.Link) (vs : List L.Event) (v : L.Event)
-      → L.afterAll c x (vs ++ (v ∷ [])) ≡ L.afterEvent c (L.afterAll c x vs) v
+      → L.afterAll clocks x (vs ++ (v ∷ [])) ≡ L.afterEvent clocks (L.afterAll clocks x vs) v
   one-more x [] v = refl
-  one-more x (u ∷ vs) v = one-more (L.afterEvent c x u) vs v
+  one-more x (u ∷ vs) v = one-more (L.afterEvent clocks x u) vs v
 
-  -- calls given 1 change nothing
-  accepted : (l : Run) (v : Event) → isReading (deviceAt l (v .slave) .last) (v .clock) ≡ true
-      → afterEvent cid c l v ≡ afterCall cid c l v (resultOf l v)
-  accepted l v q =
-      ap (λ (b : Bool). cond b (afterCall cid c l v (resultOf l v)) l) q
+  -- a call that is not given 1, and one that is: it changes nothing
+  counts : (l : Run) (slave : Bool) (t room : ℕ) (c : Call) → isAccepted l slave t ≡ true
+      → afterStep cid clocks l slave (call t room c) ≡ called l slave t room c
+  counts l slave t room c q = cond-true (isAccepted l slave t) (called l slave t room c) l q
 
-  left-out : (l : Run) (v : Event) → isReading (deviceAt l (v .slave) .last) (v .clock) ≡ false
-      → afterEvent cid c l v ≡ l
-  left-out l v q =
-      ap (λ (b : Bool). cond b (afterCall cid c l v (resultOf l v)) l) q
+  left-out : (l : Run) (slave : Bool) (t room : ℕ) (c : Call) → isAccepted l slave t ≡ false
+      → afterStep cid clocks l slave (call t room c) ≡ l
+  left-out l slave t room c q = cond-false (isAccepted l slave t) (called l slave t room c) l q
 
-  step : (l : Run) (v : Event) → Lifted l → afterEvent cid c l v .allowed ≡ true → Lifted (afterEvent cid c l v)
-  step l v L₀ h =
-      bcase (isReading (deviceAt l (v .slave) .last) (v .clock))
+  -- a load is not allowed
+  step : (l : Run) (slave : Bool) (s : Step) → Lifted l → afterStep cid clocks l slave s .allowed ≡ true
+      → Lifted (afterStep cid clocks l slave s)
+  step l slave (load ws) L₀ h = absurd (false≢true h)
+  step l slave (call t room c) L₀ h =
+      bcase (isAccepted l slave t)
       (λ q.
-      let p = accepted l v q in
-      let N = next l (L.afterAll c (L.begun sm ss) (L₀ .events)) (v .slave) (v .clock) (v .room) (v .call) (L₀ .sim) q
+      let p = counts l slave t room c q in
+      let N = next l (L.afterAll clocks (L.begun sm ss) (L₀ .events)) slave t room c (L₀ .sim) q
       (ap (λ (r : Run). r .allowed) (sym p) ∙ h) in
       subst Lifted (sym p) (record {
         events = L₀ .events ++ (N .event ∷ []);
         sim = subst (Sim _) (sym (one-more (L.begun sm ss) (L₀ .events) (N .event))) (N .sim);
       }))
-      (λ q. subst Lifted (sym (left-out l v q)) L₀)
+      (λ q. subst Lifted (sym (left-out l slave t room c q)) L₀)
 
-  allowed-before : (l : Run) (vs : List Event) → afterAll cid c l vs .allowed ≡ true → l .allowed ≡ true
+  allowed-first : (l : Run) (slave : Bool) (s : Step) → afterStep cid clocks l slave s .allowed ≡ true → l .allowed ≡ true
+  allowed-first l slave (load ws) h = absurd (false≢true h)
+  allowed-first l slave (call t room c) h =
+      bcase (isAccepted l slave t)
+      (λ q. kept l slave t c (callIn (deviceAt l slave) t room c)
+      (ap (λ (r : Run). r .allowed) (sym (counts l slave t room c q)) ∙ h) .before)
+      (λ q. ap (λ (r : Run). r .allowed) (sym (left-out l slave t room c q)) ∙ h)
+
+  allowed-before : (l : Run) (vs : List Event) → afterAll cid clocks l vs .allowed ≡ true → l .allowed ≡ true
   unfolding afterAll
   allowed-before l [] h = h
   allowed-before l (v ∷ vs) h =
-      let a = allowed-before (afterEvent cid c l v) vs h in
-      bcase (isReading (deviceAt l (v .slave) .last) (v .clock))
-      (λ q. kept l v (resultOf l v) (ap (λ (r : Run). r .allowed) (sym (accepted l v q)) ∙ a) .before)
-      (λ q. ap (λ (r : Run). r .allowed) (sym (left-out l v q)) ∙ a)
+      allowed-first l (v .slave) (v .step) (allowed-before (afterStep cid clocks l (v .slave) (v .step)) vs h)
 
-  along : (l : Run) (vs : List Event) → Lifted l → afterAll cid c l vs .allowed ≡ true → Lifted (afterAll cid c l vs)
+  along : (l : Run) (vs : List Event) → Lifted l → afterAll cid clocks l vs .allowed ≡ true → Lifted (afterAll cid clocks l vs)
   unfolding afterAll
   along l [] L₀ h = L₀
-  along l (v ∷ vs) L₀ h = along (afterEvent cid c l v) vs (step l v L₀ (allowed-before (afterEvent cid c l v) vs h)) h
+  along l (v ∷ vs) L₀ h =
+      let l′ = afterStep cid clocks l (v .slave) (v .step) in
+      along l′ vs (step l (v .slave) (v .step) L₀ (allowed-before l′ vs h)) h
 
   at-first : Lifted (begun (loadedOf wm .device) (loadedOf ws .device))
   unfolding toLog sm ss
@@ -260,7 +263,7 @@ module _ (wm ws : List ℕ) (cid : ℕ) (hm : Holds wm cid false) (hs : Holds ws
         let e = L.entryAt (x .log) k in
         subst (ItsSend cid bound y) (sym (ap (λ (s : List Sent). sentAt s k) (S .log) ∙ sent-at (x .log) k h)) (record {
           other = w .other;
-          refresh = refresh-of cid (e .fields) (e .body) (g .writable)
+          refresh = refresh-of cid (e .fields) (e .body) (g .readable)
               ∙ both (eq-eqb (e .fields .connection) cid (g .has)) (w .refresh);
           value = w .value;
           before = w .before;
@@ -283,11 +286,11 @@ module _ (wm ws : List ℕ) (cid : ℕ) (hm : Holds wm cid false) (hs : Holds ws
           → L.showAt z i .sent ≤ L.showAt z j .sent) (sym (S .shows)) (λ h e. A .in-order i j a h e);
     }
 
-  lifted : (vs : List Event) → runOf wm ws cid c vs .allowed ≡ true → Fresh cid sm ss (runOf wm ws cid c vs)
+  lifted : (vs : List Event) → runOf wm ws cid clocks vs .allowed ≡ true → Fresh cid sm ss (runOf wm ws cid clocks vs)
   lifted vs h =
       let L₁ = along (begun (loadedOf wm .device) (loadedOf ws .device)) vs at-first h in
-      fresh (runOf wm ws cid c vs) (L.afterAll c (L.begun sm ss) (L₁ .events)) (L₁ .sim)
-      (age-theorem sm ss c (L₁ .events) paired (L₁ .sim .allowed))
+      fresh (runOf wm ws cid clocks vs) (L.afterAll clocks (L.begun sm ss) (L₁ .events)) (L₁ .sim)
+      (age-theorem sm ss clocks (L₁ .events) paired (L₁ .sim .allowed))
 
 pub demand : Demand
 unfolding sm ss

@@ -1,0 +1,326 @@
+-- Every call on a device has its match on the endpoint of the CID.
+use mathlib.Core.Path.{_≡_, refl, sym, ap, subst, _∙_}
+use mathlib.Core.Bool.{Bool, true, false, _&&_, not, cond, false≢true}
+use mathlib.Core.List.{List, [], _∷_}
+use Prim.Native.Nat.{ℕ, zero, suc, _≤_, _<_}
+use native.Mathlib.Omega.{arith}
+use lib.Dec.{eqb}
+use lib.ListN.{length}
+use lib.Seq.{slice}
+use borrow.Author.Tests.{le-leb, eqb-true, eqb-false, eq-eqb, ne-eqb}
+use Rattle.frame.specs.declared.Command.the-variants as K
+use Rattle.frame.specs.declared.Fields.{Fields}
+use Rattle.frame.specs.declared.Reading.the-variants.{Frame}
+use Rattle.frame.specs.Control.{is}
+use Rattle.frame.specs.Reading.{readingOf}
+use Rattle.endpoint.specs.declared.Settings.{Settings}
+use Rattle.endpoint.specs.declared.Endpoint.{Endpoint}
+use Rattle.endpoint.specs.declared.Answer.{Answer}
+use Rattle.endpoint.specs.Answers.{isDone}
+use Rattle.endpoint.specs.Time.{isExpired, afterTick}
+use Rattle.steps.specs.Frames as W
+use Rattle.steps.specs.Calls.{Outcome, isFailSafe, shownOf}
+use Rattle.steps.specs.Steps as S
+use Rattle.steps.proofs.CallLaws.{step-laws}
+use Rattle.steps.proofs.Keeps.{bcase}
+use Rattle.device.specs.declared.Device.{Device}
+use Rattle.device.specs.declared.Entry.{Entry}
+use Rattle.device.specs.declared.Entry.the-variants.{At}
+use Rattle.device.specs.Tables.{endpointAt, entryOf}
+use Rattle.device.specs.Clock.{isReading, clockStep, afterClock}
+use Rattle.device.specs.Calls.{Result, result, actedOf, shownIn}
+use Rattle.link.specs.Runs as L
+use Rattle.runs.specs.Steps.{Call, act, send, deliver, show, callIn, isAt}
+use Rattle.runs.specs.Bus.{onBus, isOf, isRefreshIn, isFrameOf, isRefreshOf}
+use Rattle.runs.proofs.Tables.{Like, like-tick, like-at, like-length, ticked-at, placed-here, placed-there, at}
+use Rattle.runs.proofs.Tables.{entry-like, entry-found}
+use Rattle.runs.proofs.Loaded.{Table}
+use Rattle.runs.proofs.Idle.{call-expired, call-timely, tick-expired, tick-timely}
+use Rattle.runs.proofs.Reaching as A
+use Rattle.runs.proofs.Reaching.{and-false}
+use Rattle.age.specs.Runs.{lentTo, logged, lastOf, mayDeliver, tookBy, showsValue, shownBy}
+use Rattle.age.proofs.Logs.{toLog, AllGood, no-more, last-of, WritingOf, writing-of}
+use Rattle.age.proofs.OneCall.{empty, not-logged, other-frame, own-log, own-good, Matches, not-shown, idle}
+use Rattle.age.proofs.OneCall.{clocked, only-clock}
+
+-- zero bytes are no S-Refresh
+no-refresh : (cid : ℕ) (s : List ℕ) → eqb (length s) 0 ≡ true → isRefreshOf cid s ≡ false
+unfolding readingOf
+no-refresh cid [] z = refl
+no-refresh cid (b ∷ s) z = let q : suc (length s) ≡ 0 = eqb-true (suc (length s)) 0 z in absurd (omega arith)
+
+-- a show changes the endpoint by the clock step only, and puts nothing on the bus
+show-call : (slave : Bool) (m : ℕ) (e : Endpoint) (t : ℕ)
+    → (S.callOf e t S.show .endpoint ≡ afterTick e t)
+    × (L.logged slave m S.show (S.callOf e t S.show .writes) ≡ [])
+show-call slave m e t =
+    bcase (isExpired e t)
+    (λ x. (
+      ap (λ (o : Outcome). o .endpoint) (call-expired e t S.show x) ∙ sym (tick-expired e t x),
+      ap (λ (o : Outcome). L.logged slave m S.show (o .writes)) (call-expired e t S.show x),
+    ))
+    (λ x. (
+      ap (λ (o : Outcome). o .endpoint) (call-timely e t S.show x) ∙ sym (tick-timely e t x),
+      ap (λ (o : Outcome). L.logged slave m S.show (o .writes)) (call-timely e t S.show x),
+    ))
+
+flip : (b : Bool) (x : L.Show) → cond {A = List L.Show} (not b) (x ∷ []) [] ≡ cond b [] (x ∷ [])
+flip true x = refl
+flip false x = refl
+
+module _ (cid : ℕ) (slave : Bool) (m : ℕ) (d₀ : Device) (n : ℕ) (T : Table d₀ cid n) (d : Device) (same : Like d d₀)
+    (t room : ℕ) (reading : isReading (d .last) t ≡ true) (log : List L.Entry) (good : AllGood cid log) (took : ℕ)
+  where
+    abbrev Match : Call → Type 0
+    Match c = Matches cid slave m d n t room log took c
+
+    -- the endpoint took the clock step only, and nothing of the CID was written, shown or taken
+    idles : (c : Call)
+        → endpointAt (callIn d t room c .device .endpoints) n ≡ afterTick (endpointAt (d .endpoints) n) t
+        → isFrameOf cid (onBus (callIn d t room c .writes)) ≡ false
+        → showsValue cid d c (callIn d t room c) ≡ false
+        → tookBy cid (toLog log) c (isDone (callIn d t room c .answer)) took ≡ took
+        → Like (callIn d t room c .device) d
+        → Match c
+    idles = idle cid slave m d n t room reading log took
+
+    clocks : (c : Call)
+        → callIn d t room c .device ≡ clockStep t d
+        → isFrameOf cid (onBus (callIn d t room c .writes)) ≡ false
+        → showsValue cid d c (callIn d t room c) ≡ false
+        → tookBy cid (toLog log) c (isDone (callIn d t room c .answer)) took ≡ took
+        → Match c
+    clocks = only-clock cid slave m d n t room reading log took
+
+    -- the CID's entry, and its CID
+    the-entry : entryOf cid (d .count) (d .endpoints) ≡ At n
+    the-entry = entry-like same cid ∙ T .entry
+
+    its-cid : endpointAt (d .endpoints) n .settings .connection ≡ cid
+    its-cid = ap (λ (s : Settings). s .connection) (like-at same n) ∙ T .has
+
+    -- ---- no connection's
+    not-done : (c : Call) (r : Result) → isDone (r .answer) ≡ false → showsValue cid d c r ≡ false
+    not-done (act a k) r h = refl
+    not-done (send k value) r h = refl
+    not-done (deliver s) r h = refl
+    not-done (show k) r h =
+        let i = isAt (entryOf cid (d .count) (d .endpoints)) k in
+        ap (λ (b : Bool). i && (b && not (r .failsafe))) h ∙ and-false i
+
+    took-none : (c : Call) → tookBy cid (toLog log) c false took ≡ took
+    took-none (act a k) = refl
+    took-none (send k value) = refl
+    took-none (deliver s) = refl
+    took-none (show k) = refl
+
+    nowhere : {c : Call} (a : Answer) (x : Entry) → A.Still c a
+        → callIn d t room c ≡ result a x W.nothing false (afterClock t d) → Match c
+    nowhere {c = c} a x s q =
+        clocks c (ap (λ (r : Result). r .device) q ∙ clocked cid slave m d n t room reading log took)
+        (ap (λ (r : Result). isFrameOf cid (onBus (r .writes))) q ∙ empty cid)
+        (ap (showsValue cid d c) q ∙ silent s)
+        (ap (λ (r : Result). tookBy cid (toLog log) c (isDone (r .answer)) took) q ∙ none s)
+      where
+        silent : {c : Call} → A.Still c a → showsValue cid d c (result a x W.nothing false (afterClock t d)) ≡ false
+        silent {c = c} (A.refused h) = not-done c _ h
+        silent (A.empty z) = refl
+
+        none : {c : Call} → A.Still c a → tookBy cid (toLog log) c (isDone a) took ≡ took
+        none {c = c} (A.refused h) = ap (λ (b : Bool). tookBy cid (toLog log) c b took) h ∙ took-none c
+        none (A.empty {s = s} z) =
+            ap (λ (b : Bool). cond (isDone a && b) (lastOf s (toLog log)) took) (no-refresh cid s z)
+            ∙ ap (λ (b : Bool). cond b (lastOf s (toLog log)) took) (and-false (isDone a))
+
+    -- ---- a show
+    module _ (k : ℕ)
+        (q : callIn d t room (show k) ≡ shownIn (afterTick (endpointAt (d .endpoints) k) t) t k d) where
+      shows-other : eqb n k ≡ false → Match (show k)
+      shows-other b =
+          let r = callIn d t room (show k) in
+          clocks (show k) (ap (λ (r : Result). r .device) q)
+          (ap (λ (r : Result). isFrameOf cid (onBus (r .writes))) q ∙ empty cid)
+          (ap (λ (i : Bool). i && (isDone (r .answer) && not (r .failsafe)))
+          (ap (λ (y : Entry). isAt y k) the-entry ∙ b))
+          refl
+
+    shows-own : callIn d t room (show n) ≡ shownIn (afterTick (endpointAt (d .endpoints) n) t) t n d → Match (show n)
+    unfolding toLog
+    shows-own q =
+        let e = endpointAt (d .endpoints) n in
+        let x = afterTick e t in
+        let y = L.shown slave m (shownOf x) took (length log) in
+        let c = show-call slave m e t in
+        let v : showsValue cid d (show n) (shownIn x t n d) ≡ not (isFailSafe x) =
+        ap (λ (b : Bool). b && (true && not (isFailSafe x)))
+        (ap (λ (y : Entry). isAt y n) the-entry ∙ eq-eqb n n refl) in
+        record {
+          by = S.show;
+          endpoint = ap (λ (r : Result). endpointAt (r .device .endpoints) n) q ∙ ticked-at d t n ∙ sym (c .0);
+          logs = ap (λ (r : Result). logged cid slave m (show n) (r .writes)) q
+              ∙ not-logged cid slave m (show n) (W.value (shownOf x)) (empty cid) ∙ sym (ap toLog (c .1));
+          good = subst (AllGood cid) (sym (c .1)) no-more;
+          shows = ap (shownBy cid slave d m took (length log) (show n)) q
+              ∙ ap (λ (b : Bool). cond {A = List L.Show} b (y ∷ []) []) v
+              ∙ flip (isFailSafe x) y ∙ sym (ap (L.shownBy slave m took (length log) S.show) (c .0));
+          takes = refl;
+          may = refl;
+          like = subst (λ (r : Result). Like (r .device) d) (sym q) (like-tick d t);
+        }
+
+    -- ---- a frame for the connection at k
+    module _ (s : List ℕ) (f : Fields) (from to k : ℕ) (is-frame : readingOf s ≡ Frame f from to)
+        (h : entryOf (f .connection) (d .count) (d .endpoints) ≡ At k) where
+      -- the entry's CID is the frame's
+      its-frame : k ≡ n → f .connection ≡ cid
+      its-frame q =
+          sym (entry-found (f .connection) (d .count) k (d .endpoints) h .has)
+          ∙ ap (λ (i : ℕ). endpointAt (d .endpoints) i .settings .connection) q ∙ its-cid
+
+      no-frame : (k ≡ n → ⊥) → f .connection ≡ cid → ⊥
+      no-frame ne q =
+          ne (ap at (sym h ∙ ap (λ (c : ℕ). entryOf c (d .count) (d .endpoints)) q ∙ the-entry))
+
+      refreshes : isRefreshOf cid s ≡ (eqb (f .connection) cid && is (f .command) K.Refresh)
+      refreshes = ap (isRefreshIn cid) is-frame
+
+      -- of another connection it is no S-Refresh of the CID
+      takes-none : (k ≡ n → ⊥) → (b : Bool) → tookBy cid (toLog log) (deliver s) b took ≡ took
+      takes-none ne b =
+          ap (λ (i : Bool). cond (b && i) (lastOf s (toLog log)) took)
+          (refreshes ∙ ap (λ (i : Bool). i && is (f .command) K.Refresh) (ne-eqb (f .connection) cid (no-frame ne)))
+          ∙ ap (λ (i : Bool). cond i (lastOf s (toLog log)) took) (and-false b)
+
+      -- of this one it was written
+      module _ (q : k ≡ n) (may : mayDeliver cid (toLog log) (deliver s) ≡ true) where
+        was-written : 1 ≤ lastOf s (toLog log)
+        was-written = place (lastOf s (toLog log)) refl
+          where
+            own : isFrameOf cid s ≡ true
+            own = ap (isOf cid) is-frame ∙ eq-eqb (f .connection) cid (its-frame q)
+
+            place : (p : ℕ) → lastOf s (toLog log) ≡ p → 1 ≤ lastOf s (toLog log)
+            place zero z = absurd (false≢true (rw (own, z) at may))
+            place (suc p) z = omega arith
+
+        writing : WritingOf s f (slice from to s)
+        writing = writing-of cid s log good was-written f from to is-frame
+
+        last-place : lastOf s (toLog log) ≡ L.lastOf f (slice from to s) log
+        last-place = ap (λ (x : List ℕ). lastOf x (toLog log)) (sym (writing .is))
+            ∙ last-of cid f (slice from to s) (writing .readable) log good
+
+        may-too : L.mayDeliver log (S.deliver f (slice from to s)) ≡ true
+        may-too =
+            let w = was-written in
+            let p = last-place in
+            le-leb 1 (L.lastOf f (slice from to s) log) (omega arith)
+
+        takes-too : (a : Answer)
+            → tookBy cid (toLog log) (deliver s) (isDone a) took ≡ L.tookBy log (S.deliver f (slice from to s)) a took
+        takes-too a =
+            ap (λ (i : Bool). cond (isDone a && i) (lastOf s (toLog log)) took)
+            (refreshes ∙ ap (λ (i : Bool). i && is (f .command) K.Refresh)
+            (eq-eqb (f .connection) cid (its-frame q)))
+            ∙ ap (λ (i : ℕ). cond (isDone a && is (f .command) K.Refresh) i took) last-place
+
+    -- ---- a call for the connection at k, on the device and on the endpoint
+    lent : {c : Call} {by : S.Call} {k : ℕ} → A.For d c by k → lentTo c ≡ L.lentTo by
+    lent (A.acts a k) = refl
+    lent (A.sends k value) = refl
+    lent (A.delivers s f from to k i h) = refl
+
+    no-show : {c : Call} {by : S.Call} {k : ℕ} → A.For d c by k → (r : Result) → showsValue cid d c r ≡ false
+    no-show (A.acts a k) r = refl
+    no-show (A.sends k value) r = refl
+    no-show (A.delivers s f from to k i h) r = refl
+
+    no-show-by : {c : Call} {by : S.Call} {k : ℕ} → A.For d c by k → (x : Endpoint)
+        → L.shownBy slave m took (length log) by x ≡ []
+    no-show-by (A.acts a k) x = refl
+    no-show-by (A.sends k value) x = refl
+    no-show-by (A.delivers s f from to k i h) x = refl
+
+    took-other : {c : Call} {by : S.Call} {k : ℕ} → A.For d c by k → (k ≡ n → ⊥) → (b : Bool)
+        → tookBy cid (toLog log) c b took ≡ took
+    took-other (A.acts a k) ne b = refl
+    took-other (A.sends k value) ne b = refl
+    took-other (A.delivers s f from to k i h) ne b = takes-none s f from to k i h ne b
+
+    took-own : {c : Call} {by : S.Call} {k : ℕ} → A.For d c by k → k ≡ n → mayDeliver cid (toLog log) c ≡ true
+        → (a : Answer) → tookBy cid (toLog log) c (isDone a) took ≡ L.tookBy log by a took
+    took-own (A.acts a k) q may b = refl
+    took-own (A.sends k value) q may b = refl
+    took-own (A.delivers s f from to k i h) q may b = takes-too s f from to k i h q may b
+
+    may-own : {c : Call} {by : S.Call} {k : ℕ} → A.For d c by k → k ≡ n → mayDeliver cid (toLog log) c ≡ true
+        → L.mayDeliver log by ≡ true
+    may-own (A.acts a k) q may = refl
+    may-own (A.sends k value) q may = refl
+    may-own (A.delivers s f from to k i h) q may = may-too s f from to k i h q may
+
+    module _ (c : Call) (by : S.Call) (k : ℕ) (names : A.For d c by k)
+        (is : callIn d t room c ≡ actedOf (A.does d t by k) t k d) (live : A.Live d t k) where
+      abbrev e : Endpoint
+      e = endpointAt (d .endpoints) k
+
+      abbrev o : Outcome
+      o = A.does d t by k
+
+      stays : Like (callIn d t room c .device) d
+      stays = subst (λ (r : Result). Like (r .device) d) (sym is) (A.step-like d t by k)
+
+      -- of another connection
+      steps-other : (k ≡ n → ⊥) → Match c
+      steps-other ne =
+          let counted = subst (λ (i : ℕ). k < i) (same .counts) (live .counted) in
+          idles c
+          (ap (λ (r : Result). endpointAt (r .device .endpoints) n) is
+          ∙ placed-there (clockStep t d) k n (o .endpoint) (λ q. ne (sym q)) ∙ ticked-at d t n)
+          (ap (λ (r : Result). isFrameOf cid (onBus (r .writes))) is
+          ∙ other-frame cid e (o .writes) (step-laws .carries e t by)
+          (λ q. T .others k counted (live .within) ne (ap (λ (s : Settings). s .connection) (sym (like-at same k)) ∙ q)))
+          (no-show names (callIn d t room c)) (took-other names ne (isDone (callIn d t room c .answer))) stays
+
+      -- of this one
+      steps-own : k ≡ n → mayDeliver cid (toLog log) c ≡ true → Match c
+      steps-own k≡n may =
+          let p : S.callOf e t by ≡ o = call-timely e t by (live .timely) in
+          let there : endpointAt (d .endpoints) n ≡ e = ap (endpointAt (d .endpoints)) (sym k≡n) in
+          let l : k < length (clockStep t d .endpoints) =
+          subst (λ (i : ℕ). k < i) (sym (like-length (like-tick d t) ∙ like-length same ∙ T .sound .length8))
+          (live .within) in
+          let has : e .settings .connection ≡ cid =
+          ap (λ (i : ℕ). endpointAt (d .endpoints) i .settings .connection) k≡n ∙ its-cid in
+          let does : S.callOf (endpointAt (d .endpoints) n) t by ≡ o = ap (λ (x : Endpoint). S.callOf x t by) there ∙ p in
+          record {
+            by = by;
+            endpoint = ap (λ (r : Result). endpointAt (r .device .endpoints) n) is
+                ∙ ap (endpointAt (actedOf o t k d .device .endpoints)) (sym k≡n)
+                ∙ placed-here (clockStep t d) k (o .endpoint) l ∙ sym (ap (λ (y : Outcome). y .endpoint) does);
+            logs = ap (λ (r : Result). logged cid slave m c (r .writes)) is
+                ∙ own-log cid slave m c by e (o .writes) (step-laws .carries e t by) has (lent names)
+                ∙ sym (ap (λ (y : Outcome). toLog (L.logged slave m by (y .writes))) does);
+            good = subst (λ (y : Outcome). AllGood cid (L.logged slave m by (y .writes))) (sym does)
+                (own-good cid slave m by e (o .writes) (step-laws .carries e t by) has);
+            shows = not-shown cid slave m d n t room reading log took c (callIn d t room c)
+                (no-show names (callIn d t room c)) ∙ sym (no-show-by names _);
+            takes = ap (λ (r : Result). tookBy cid (toLog log) c (isDone (r .answer)) took) is
+                ∙ took-own names k≡n may (o .answer) ∙ sym (ap (λ (y : Outcome). L.tookBy log by (y .answer) took) does);
+            may = may-own names k≡n may;
+            like = stays;
+          }
+
+    -- ---- every call
+    pub matches : {c : Call} → A.Reach d t room c → mayDeliver cid (toLog log) c ≡ true → Match c
+    matches (A.nowhere a x s q) may = nowhere a x s q
+    matches (A.showing k q) may =
+        bcase (eqb n k)
+        (λ b. let i = eqb-true n k b in
+        subst (λ (j : ℕ). Match (show j)) i
+        (shows-own (subst (λ (j : ℕ). callIn d t room (show j)
+        ≡ shownIn (afterTick (endpointAt (d .endpoints) j) t) t j d) (sym i) q)))
+        (shows-other k q)
+    matches {c = c} (A.stepping by k f q l) may =
+        bcase (eqb k n) (λ b. steps-own c by k f q l (eqb-true k n b) may)
+        (λ b. steps-other c by k f q l (eqb-false k n b))

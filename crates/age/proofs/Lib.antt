@@ -1,0 +1,6 @@
+-- Demand 3 for devices: the bytes between them, one call, every list of calls.
+pub mod Logs
+pub mod OneCall
+pub mod EachCall
+pub mod Lift
+pub mod Example

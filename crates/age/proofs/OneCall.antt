@@ -1,0 +1,137 @@
+-- One call on a device, seen from one CID's entry: some call on that endpoint does the same to it, and to what is
+-- written and shown of the CID.
+use mathlib.Core.Path.{_≡_, refl, sym, ap, subst, _∙_}
+use mathlib.Core.Bool.{Bool, true, false}
+use mathlib.Core.List.{List, [], _∷_}
+use mathlib.Core.Option.{Option}
+use Prim.Native.Nat.{ℕ}
+use lib.ListN.{length}
+use borrow.Author.Tests.{eq-eqb, ne-eqb}
+use Rattle.frame.specs.Reading.{readingOf}
+use Rattle.frame.specs.Writing.{frameBytes}
+use Rattle.endpoint.specs.declared.Endpoint.{Endpoint}
+use Rattle.endpoint.specs.Answers.{isDone}
+use Rattle.endpoint.specs.Time.{afterTick}
+use Rattle.steps.specs.Frames.{Written, nothing, frame, value, bytesOf}
+use Rattle.steps.specs.Calls.{Outcome}
+use Rattle.steps.specs.Steps as S
+use Rattle.steps.specs.Laws.{Carries}
+use Rattle.steps.proofs.Dispatch.{cond-true, cond-false}
+use Rattle.device.specs.declared.Device.{Device}
+use Rattle.device.specs.Tables.{endpointAt}
+use Rattle.device.specs.Clock.{isReading, clockStep, afterClock}
+use Rattle.device.specs.Calls.{Result}
+use Rattle.link.specs.Runs as L
+use Rattle.runs.specs.Steps.{Call, callIn}
+use Rattle.runs.specs.Bus.{onBus, isFrameOf}
+use Rattle.runs.proofs.Tables.{Like, like-tick, ticked-at}
+use Rattle.runs.proofs.Idle.{idle-at}
+use Rattle.age.specs.Runs.{sent, lentTo, logged, tookBy, showsValue, shownBy}
+use Rattle.age.proofs.Logs.{frame-of, toSent, toLog, AllGood, no-more, and-more}
+
+-- ---- the frame that a call wrote
+pub empty : (cid : ℕ) → isFrameOf cid [] ≡ false
+unfolding readingOf
+empty cid = refl
+
+-- what is no frame of the CID is not logged
+pub not-logged : (cid : ℕ) (slave : Bool) (m : ℕ) (call : Call) (w : Written) → isFrameOf cid (onBus w) ≡ false
+    → logged cid slave m call w ≡ []
+not-logged cid slave m call w h =
+    cond-false (isFrameOf cid (onBus w)) (sent slave m (onBus w) (lentTo call) ∷ []) [] h
+
+-- of another connection: no frame of the CID
+pub other-frame : (cid : ℕ) (x : Endpoint) (w : Written) → Carries x w → (x .settings .connection ≡ cid → ⊥)
+    → isFrameOf cid (onBus w) ≡ false
+other-frame cid x nothing c ne = empty cid
+other-frame cid x (frame f body) c ne =
+    frame-of cid f body (c .0) ∙ ne-eqb (f .connection) cid (λ q. ne (sym (c .1) ∙ q))
+other-frame cid x (value bytes) c ne = empty cid
+
+-- of this one: it is logged, as fields and body and as bytes
+pub own-log : (cid : ℕ) (slave : Bool) (m : ℕ) (call : Call) (by : S.Call) (x : Endpoint) (w : Written)
+    → Carries x w → x .settings .connection ≡ cid → lentTo call ≡ L.lentTo by
+    → logged cid slave m call w ≡ toLog (L.logged slave m by w)
+unfolding toLog toSent
+own-log cid slave m call by x nothing c q l = not-logged cid slave m call nothing (empty cid)
+own-log cid slave m call by x (frame f body) c q l =
+    cond-true (isFrameOf cid (frameBytes f body)) (sent slave m (frameBytes f body) (lentTo call) ∷ []) []
+    (frame-of cid f body (c .0) ∙ eq-eqb (f .connection) cid (c .1 ∙ q))
+    ∙ ap (λ (v : Option (List ℕ)). sent slave m (frameBytes f body) v ∷ []) l
+own-log cid slave m call by x (value bytes) c q l = not-logged cid slave m call (value bytes) (empty cid)
+
+pub own-good : (cid : ℕ) (slave : Bool) (m : ℕ) (by : S.Call) (x : Endpoint) (w : Written) → Carries x w
+    → x .settings .connection ≡ cid
+    → AllGood cid (L.logged slave m by w)
+own-good cid slave m by x nothing c q = no-more
+own-good cid slave m by x (frame f body) c q =
+    and-more (record { readable = c .0; has = c .1 ∙ q }) no-more
+own-good cid slave m by x (value bytes) c q = no-more
+
+-- the call that does the same to the endpoint at n
+pub record Matches (cid : ℕ) (slave : Bool) (m : ℕ) (d : Device) (n t room : ℕ) (log : List L.Entry) (took : ℕ)
+    (call : Call) : Type 0 where
+  pub by : S.Call
+  pub endpoint : endpointAt (callIn d t room call .device .endpoints) n
+      ≡ S.callOf (endpointAt (d .endpoints) n) t by .endpoint
+  pub logs : logged cid slave m call (callIn d t room call .writes)
+      ≡ toLog (L.logged slave m by (S.callOf (endpointAt (d .endpoints) n) t by .writes))
+  pub good : AllGood cid (L.logged slave m by (S.callOf (endpointAt (d .endpoints) n) t by .writes))
+  pub shows : shownBy cid slave d m took (length log) call (callIn d t room call)
+      ≡ L.shownBy slave m took (length log) by (S.callOf (endpointAt (d .endpoints) n) t by .endpoint)
+  pub takes : tookBy cid (toLog log) call (isDone (callIn d t room call .answer)) took
+      ≡ L.tookBy log by (S.callOf (endpointAt (d .endpoints) n) t by .answer) took
+  pub may : L.mayDeliver log by ≡ true
+  pub like : Like (callIn d t room call .device) d
+
+module _ (cid : ℕ) (slave : Bool) (m : ℕ) (d : Device) (n t room : ℕ) (reading : isReading (d .last) t ≡ true)
+    (log : List L.Entry) (took : ℕ) where
+  abbrev Match : Call → Type 0
+  Match call = Matches cid slave m d n t room log took call
+
+  -- nothing is shown of the CID
+  pub not-shown : (call : Call) (r : Result) → showsValue cid d call r ≡ false
+      → shownBy cid slave d m took (length log) call r ≡ []
+  not-shown call r h =
+      cond-false (showsValue cid d call r) (L.shown slave m (bytesOf (r .writes)) took (length log) ∷ []) [] h
+
+  -- the endpoint took the clock step only, and nothing of the CID was written, shown or taken
+  pub idle : (call : Call)
+      → endpointAt (callIn d t room call .device .endpoints) n ≡ afterTick (endpointAt (d .endpoints) n) t
+      → isFrameOf cid (onBus (callIn d t room call .writes)) ≡ false
+      → showsValue cid d call (callIn d t room call) ≡ false
+      → tookBy cid (toLog log) call (isDone (callIn d t room call .answer)) took ≡ took
+      → Like (callIn d t room call .device) d
+      → Match call
+  unfolding toLog
+  idle call en fr sh to li =
+      let e = endpointAt (d .endpoints) n in
+      let i = idle-at e t in
+      let r = callIn d t room call in
+      let k = S.act (i .by) in
+      let w : S.callOf e t k .writes ≡ nothing = ap (λ (o : Outcome). o .writes) (i .comes) in
+      record {
+        by = k;
+        endpoint = en ∙ sym (ap (λ (o : Outcome). o .endpoint) (i .comes));
+        logs = not-logged cid slave m call (r .writes) fr
+            ∙ sym (ap (λ (x : Written). toLog (L.logged slave m k x)) w);
+        good = subst (λ (x : Written). AllGood cid (L.logged slave m k x)) (sym w) no-more;
+        shows = not-shown call r sh;
+        takes = to;
+        may = refl;
+        like = li;
+      }
+
+  pub clocked : afterClock t d ≡ clockStep t d
+  clocked = cond-true (isReading (d .last) t) (clockStep t d) d reading
+
+  -- the same of a call that left what the clock step leaves
+  pub only-clock : (call : Call)
+      → callIn d t room call .device ≡ clockStep t d
+      → isFrameOf cid (onBus (callIn d t room call .writes)) ≡ false
+      → showsValue cid d call (callIn d t room call) ≡ false
+      → tookBy cid (toLog log) call (isDone (callIn d t room call .answer)) took ≡ took
+      → Match call
+  only-clock call q fr sh to =
+      idle call (ap (λ (x : Device). endpointAt (x .endpoints) n) q ∙ ticked-at d t n) fr sh to
+      (subst (λ (x : Device). Like x d) (sym q) (like-tick d t))

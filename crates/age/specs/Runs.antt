@@ -1,0 +1,189 @@
+-- Two devices over a list of calls, to be read beside document 01, "What demand 3 runs over": its sentences stand here
+-- in their order, each above what says it. All is for one CID that both devices hold.
+use mathlib.Core.Bool.{Bool, true, false, _&&_, _||_, not, cond, Bool·beq}
+use mathlib.Core.List.{List, [], _∷_, _++_}
+use mathlib.Core.Option.{Option, some, none}
+use Prim.Native.Nat.{ℕ, suc}
+use lib.Dec.{leb}
+use lib.ListN.{length, getD}
+use Rattle.words.specs.Bytes.{same}
+use Rattle.endpoint.specs.Answers.{isDone}
+use Rattle.steps.specs.Frames.{Written, bytesOf}
+use Rattle.device.specs.declared.Device.{Device}
+use Rattle.device.specs.Tables.{entryOf}
+use Rattle.device.specs.Clock.{isReading}
+use Rattle.device.specs.Calls.{Result}
+use Rattle.runs.specs.Steps.{Call, act, send, deliver, show, Step, load, call, callIn, isAt}
+use Rattle.runs.specs.Bus.{onBus, isFrameOf, isRefreshOf}
+use Rattle.link.specs.Runs.{Clocks, momentOf, Show, shown}
+
+-- ---- what is kept along the list
+-- a frame of the CID that was written: by whom, when, the bytes, and the value lent to the call
+pub record Sent : Type 0 where
+  pub slave : Bool
+  pub moment : ℕ
+  pub bytes : List ℕ
+  pub lent : Option (List ℕ)
+
+abbrev pub sent : Bool → ℕ → List ℕ → Option (List ℕ) → Sent
+sent slave moment bytes lent = record { slave = slave; moment = moment; bytes = bytes; lent = lent }
+
+-- what stands past the end of the log is of no account
+abbrev pub noSent : Sent
+noSent = sent false 0 [] none
+
+unfoldable pub sentAt : List Sent → ℕ → Sent
+sentAt l i = getD l i noSent
+
+pub record Run : Type 0 where
+  pub master : Device
+  pub slave : Device
+  -- the frames of the CID that were written, oldest first
+  pub log : List Sent
+  -- the done shows of the CID's entry that were not fail-safe, oldest first
+  pub shows : List Show
+  -- one more than the place of the S-Refresh of the CID last taken at each end; 0: none
+  pub masterTook : ℕ
+  pub slaveTook : ℕ
+  -- the last call's moment
+  pub latest : ℕ
+  -- whether the list kept to what demand 3 runs over
+  pub allowed : Bool
+
+-- ---- "Two devices, just loaded with answer 0, hold one common CID, one as master, the other as slave, beside
+-- whatever others." How they hold it is Holds in Demand.
+abbrev pub begun : Device → Device → Run
+begun dm ds = record {
+  master = dm;
+  slave = ds;
+  log = [];
+  shows = [];
+  masterTook = 0;
+  slaveTook = 0;
+  latest = 0;
+  allowed = true;
+}
+
+-- ---- "The list has any calls but load on either, for whatever entry, refused ones and kinds that a later paper adds
+-- included."
+-- a step at the slave's device or the master's
+pub record Event : Type 0 where
+  pub slave : Bool
+  pub step : Step
+
+-- a list with a load is none of demand 3's
+abbrev pub notAllowed : Run → Run
+notAllowed l = record {
+  master = l .master;
+  slave = l .slave;
+  log = l .log;
+  shows = l .shows;
+  masterTook = l .masterTook;
+  slaveTook = l .slaveTook;
+  latest = l .latest;
+  allowed = false;
+}
+
+-- ---- "Each call gets its device as that device's last call returned it; nobody else writes it meanwhile."
+abbrev pub deviceAt : Run → Bool → Device
+deviceAt l slave = cond slave (l .slave) (l .master)
+
+-- the device at an end, after a call at the slave's device or the master's
+abbrev pub deviceAfter : Bool → Run → Bool → Result → Device
+deviceAfter end l slave r = cond (Bool·beq end slave) (r .device) (deviceAt l end)
+
+-- ---- "A call's moment is its reading at the master, its reading plus D at the slave, D one whole number for the
+-- list." This is momentOf in crates/link/specs/Runs.antt.
+
+-- ---- "Leaving out calls given 1, moments never fall along the list, and at no call is either clock past a reading's
+-- limit."
+-- number 1 is given where this is false; so no call that counts has its own clock past the limit, and the other's is
+-- not asked
+abbrev pub isAccepted : Run → Bool → ℕ → Bool
+isAccepted l slave t = isReading (deviceAt l slave .last) t
+
+abbrev pub neverFalls : Run → ℕ → Bool
+neverFalls l m = leb (l .latest) m
+
+-- ---- "A deliver hands over a frame of this CID that an earlier send, stop or slave's deliver in the list wrote, at
+-- either end; or bytes that the reader takes for no frame, or for one under another CID."
+-- only a send is lent a value
+abbrev pub lentTo : Call → Option (List ℕ)
+lentTo (act a n) = none
+lentTo (send n value) = some value
+lentTo (deliver s) = none
+lentTo (show n) = none
+
+-- what a call put on the bus is logged where the reader takes it for a frame of the CID
+abbrev pub logged : ℕ → Bool → ℕ → Call → Written → List Sent
+logged cid slave m c w = cond (isFrameOf cid (onBus w)) (sent slave m (onBus w) (lentTo c) ∷ []) []
+
+-- one more than the last place of these bytes, counted on from n; found where none is left
+unfoldable pub lastFrom : ℕ → List ℕ → List Sent → ℕ → ℕ
+lastFrom n s [] found = found
+lastFrom n s (w ∷ l) found = lastFrom (suc n) s l (cond (same s (w .bytes)) (suc n) found)
+
+-- 0 where they were not written
+unfoldable pub lastOf : List ℕ → List Sent → ℕ
+lastOf s l = lastFrom 0 s l 0
+
+abbrev pub mayDeliver : ℕ → List Sent → Call → Bool
+mayDeliver cid l (act a n) = true
+mayDeliver cid l (send n value) = true
+mayDeliver cid l (deliver s) = not (isFrameOf cid s) || leb 1 (lastOf s l)
+mayDeliver cid l (show n) = true
+
+-- ---- "A done show of this CID's entry that is not fail-safe has its send: one by the other end, earlier in the list,
+-- that wrote the frame of the showing end's last done deliver of S-Refresh on this CID before the show."
+-- a done show of the CID's entry that is not fail-safe
+abbrev pub showsValue : ℕ → Device → Call → Result → Bool
+showsValue cid d (act a n) r = false
+showsValue cid d (send n value) r = false
+showsValue cid d (deliver s) r = false
+showsValue cid d (show n) r =
+    isAt (entryOf cid (d .count) (d .endpoints)) n && (isDone (r .answer) && not (r .failsafe))
+
+-- the frame of an end's last done deliver of S-Refresh on this CID, by one more than its place in the log: this call's,
+-- or the one before
+abbrev pub tookBy : ℕ → List Sent → Call → Bool → ℕ → ℕ
+tookBy cid l (act a n) done last = last
+tookBy cid l (send n value) done last = last
+tookBy cid l (deliver s) done last = cond (done && isRefreshOf cid s) (lastOf s l) last
+tookBy cid l (show n) done last = last
+
+abbrev pub tookAt : Run → Bool → ℕ
+tookAt l slave = cond slave (l .slaveTook) (l .masterTook)
+
+abbrev pub tookAfter : Bool → ℕ → Run → Bool → Call → Result → ℕ
+tookAfter end cid l slave c r =
+    cond (Bool·beq end slave) (tookBy cid (l .log) c (isDone (r .answer)) (tookAt l end)) (tookAt l end)
+
+-- the show: at which end, when, the bytes, that place, and how many frames had been written
+abbrev pub shownBy : ℕ → Bool → Device → ℕ → ℕ → ℕ → Call → Result → List Show
+shownBy cid slave d m took n c r =
+    cond (showsValue cid d c r) (shown slave m (bytesOf (r .writes)) took n ∷ []) []
+
+-- ---- all of it, along the list
+-- a call at an end with its reading, and what it came to
+abbrev pub afterCall : ℕ → Clocks → Run → Bool → ℕ → Call → Result → Run
+afterCall cid clocks l slave t c r =
+    let m = momentOf clocks slave t in
+    record {
+      master = deviceAfter false l slave r;
+      slave = deviceAfter true l slave r;
+      log = l .log ++ logged cid slave m c (r .writes);
+      shows = l .shows ++ shownBy cid slave (deviceAt l slave) m (tookAt l slave) (length (l .log)) c r;
+      masterTook = tookAfter false cid l slave c r;
+      slaveTook = tookAfter true cid l slave c r;
+      latest = m;
+      allowed = l .allowed && (mayDeliver cid (l .log) c && neverFalls l m);
+    }
+
+abbrev pub afterStep : ℕ → Clocks → Run → Bool → Step → Run
+afterStep cid clocks l slave (load ws) = notAllowed l
+afterStep cid clocks l slave (call t room c) =
+    cond (isAccepted l slave t) (afterCall cid clocks l slave t c (callIn (deviceAt l slave) t room c)) l
+
+unfoldable pub afterAll : ℕ → Clocks → Run → List Event → Run
+afterAll cid clocks l [] = l
+afterAll cid clocks l (v ∷ vs) = afterAll cid clocks (afterStep cid clocks l (v .slave) (v .step)) vs

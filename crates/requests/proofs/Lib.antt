@@ -1,0 +1,2 @@
+-- The count of a start's requests.
+pub mod Requests

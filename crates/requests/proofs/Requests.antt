@@ -1,0 +1,178 @@
+-- The count of setup requests, over every list of calls on a device.
+use mathlib.Core.Path.{_≡_, refl, sym, ap, subst, _∙_}
+use mathlib.Core.Bool.{Bool, true, false, _&&_, cond}
+use mathlib.Core.List.{List, [], _∷_}
+use Prim.Native.Nat.{ℕ, suc, _+_, _≤_, _<_}
+use native.Mathlib.Omega.{arith}
+use lib.Dec.{eqb, lit≤}
+use lib.ListN.{length}
+use borrow.Author.Tests.{eqb-true, eqb-false}
+use Rattle.frame.specs.Reading.{readingOf}
+use Rattle.frame.proofs.ReadBack.{round-trip}
+use Rattle.endpoint.specs.declared.Settings.{Settings}
+use Rattle.endpoint.specs.declared.Endpoint.{Endpoint}
+use Rattle.endpoint.specs.declared.Answer.{Answer}
+use Rattle.endpoint.specs.Answers.{isDone}
+use Rattle.endpoint.specs.Time.{afterTick}
+use Rattle.endpoint.specs.Due.{requestLimit}
+use Rattle.steps.specs.Frames.{Written, nothing, frame, value}
+use Rattle.steps.specs.Calls.{Outcome}
+use Rattle.steps.specs.Steps as S
+use Rattle.steps.specs.Laws.{Carries, requestsIn, isStart}
+use Rattle.steps.proofs.CallLaws.{step-laws}
+use Rattle.steps.proofs.Dispatch.{cond-true, cond-false}
+use Rattle.steps.proofs.Keeps.{bcase}
+use Rattle.device.specs.declared.Device.{Device}
+use Rattle.device.specs.Tables.{endpointAt, unloaded}
+use Rattle.device.specs.Clock.{isReading, clockStep, afterClock}
+use Rattle.device.specs.Calls.{Result, result, actedOf, shownIn}
+use Rattle.runs.specs.Steps.{Call, show, Step, load, call, callIn, isAt}
+use Rattle.runs.specs.Bus.{onBus}
+use Rattle.runs.proofs.Tables.{tick-keeps, like-tick, like-length, ticked-at, placed-here, placed-there}
+use Rattle.runs.proofs.Loaded.{Sound, sound-like, unloaded-sound, unloaded-none, loaded-sound, loaded-none}
+use Rattle.runs.proofs.Reaching as A
+use Rattle.runs.proofs.Reaching.{and-false}
+use Rattle.requests.specs.Requests.{isRequestIn, isStartOf, countAfter, Watched, watched, afterStep, afterSteps}
+use Rattle.requests.specs.Requests.{RequestCount}
+
+-- what is written reads back, and counts as what it is
+count-back : (e : Endpoint) (w : Written) → Carries e w
+    → cond (isRequestIn (readingOf (onBus w))) 1 0 ≡ requestsIn w
+unfolding readingOf
+count-back e nothing c = refl
+count-back e (frame f body) c =
+    ap (λ (b : Bool). cond b 1 0) (ap isRequestIn (round-trip .there f body (c .0) .0))
+count-back e (value bytes) c = refl
+
+-- no bytes are no request
+empty : isRequestIn (readingOf []) ≡ false
+unfolding readingOf
+empty = refl
+
+and-true : (b : Bool) → (b && true) ≡ b
+and-true true = refl
+and-true false = refl
+
+-- one more or none
+added : (b : Bool) (count m : ℕ) → cond b 1 0 ≡ m → cond b (suc count) count ≡ count + m
+added true count m h = omega arith
+added false count m h = omega arith
+
+-- the table is sound, and the entry n keeps this count
+record Held (n : ℕ) (d : Device) (count : ℕ) : Type 0 where
+  sound : Sound d
+  same : endpointAt (d .endpoints) n .setup .requests ≡ count
+  most : count ≤ requestLimit
+
+-- only a start is a start, on the endpoint and on the device
+starts : (n : ℕ) {d : Device} {c : Call} {by : S.Call} {k : ℕ} → A.For d c by k
+    → isStartOf n c ≡ (isStart by && eqb k n)
+starts n (A.acts a k) = refl
+starts n (A.sends k v) = refl
+starts n (A.delivers s f from to k i h) = refl
+
+module _ (n : ℕ) (d : Device) (count : ℕ) (H : Held n d count) (t : ℕ) where
+  ticked : Held n (clockStep t d) count
+  ticked = record {
+    sound = sound-like (like-tick d t) (H .sound);
+    same = ap (λ (e : Endpoint). e .setup .requests) (ticked-at d t n)
+        ∙ ap (λ (s : Settings × ℕ). s .1) (tick-keeps (endpointAt (d .endpoints) n) t) ∙ H .same;
+    most = H .most;
+  }
+
+  clocked : Held n (afterClock t d) count
+  clocked =
+      bcase (isReading (d .last) t)
+      (λ h. subst (λ (x : Device). Held n x count) (sym (cond-true (isReading (d .last) t) (clockStep t d) d h)) ticked)
+      (λ h. subst (λ (x : Device). Held n x count) (sym (cond-false (isReading (d .last) t) (clockStep t d) d h)) H)
+
+  module _ (room : ℕ) where
+    abbrev After : Call → Type 0
+    After c = Held n (callIn d t room c .device) (countAfter n (call t room c) (callIn d t room c) count)
+
+    -- what holds of what the call comes to holds of the call
+    comes : (c : Call) (r : Result) → callIn d t room c ≡ r
+        → Held n (r .device) (countAfter n (call t room c) r count) → After c
+    comes c r q h =
+        subst (λ (x : Result). Held n (x .device) (countAfter n (call t room c) x count)) (sym q) h
+
+    -- the clock step at most: no start is done, nothing is put on the bus
+    idle : (c : Call) (r : Result) → callIn d t room c ≡ r → Held n (r .device) count
+        → (isStartOf n c && isDone (r .answer)) ≡ false → onBus (r .writes) ≡ [] → After c
+    idle c r q k s w =
+        let none : countAfter n (call t room c) r count ≡ count = rw (s, w, empty, and-false (isAt (r .entry) n)) in
+        comes c r q (subst (Held n (r .device)) (sym none) k)
+
+    -- ---- a connection's step
+    module _ (c : Call) (by : S.Call) (k : ℕ) (names : A.For d c by k)
+        (is : callIn d t room c ≡ actedOf (A.does d t by k) t k d) (live : A.Live d t k) where
+      abbrev e : Endpoint
+      e = endpointAt (d .endpoints) k
+
+      abbrev o : Outcome
+      o = A.does d t by k
+
+      still-sound : Sound (actedOf o t k d .device)
+      still-sound = sound-like (A.step-like d t by k) (H .sound)
+
+      -- of another connection
+      other : eqb k n ≡ false → After c
+      other b =
+          let q : countAfter n (call t room c) (actedOf o t k d) count ≡ count =
+          rw (starts n names, b, and-false (isStart by)) in
+          comes c (actedOf o t k d) is (subst (Held n (actedOf o t k d .device)) (sym q) (record {
+            sound = still-sound;
+            same = ap (λ (x : Endpoint). x .setup .requests)
+                (placed-there (clockStep t d) k n (o .endpoint) (λ i. eqb-false k n b (sym i)))
+                ∙ ticked .same;
+            most = H .most;
+          }))
+
+      -- of this one
+      own : eqb k n ≡ true → After c
+      own b =
+          let i = eqb-true k n b in
+          let kept : e .setup .requests ≡ count =
+          ap (λ (j : ℕ). endpointAt (d .endpoints) j .setup .requests) i ∙ H .same in
+          let more = added (isRequestIn (readingOf (onBus (o .writes)))) count (requestsIn (o .writes))
+          (count-back e (o .writes) (step-laws .carries e t by)) in
+          let q : countAfter n (call t room c) (actedOf o t k d) count ≡ o .endpoint .setup .requests =
+          rw (starts n names, b, and-true (isStart by), more, ← kept) (sym (step-laws .counts e t by)) in
+          let l : k < length (clockStep t d .endpoints) =
+          subst (λ (m : ℕ). k < m) (sym (like-length (like-tick d t) ∙ H .sound .length8)) (live .within) in
+          comes c (actedOf o t k d) is (subst (Held n (actedOf o t k d .device)) (sym q) (record {
+            sound = still-sound;
+            same = ap (λ (j : ℕ). endpointAt (actedOf o t k d .device .endpoints) j .setup .requests) (sym i)
+                ∙ ap (λ (x : Endpoint). x .setup .requests) (placed-here (clockStep t d) k (o .endpoint) l);
+            most = step-laws .limited e t by (subst (λ (m : ℕ). m ≤ requestLimit) (sym kept) (H .most));
+          }))
+
+    -- ---- every call
+    not-started : {c : Call} {a : Answer} → A.Still c a → (isStartOf n c && isDone a) ≡ false
+    not-started {c = c} (A.refused h) = ap (λ (b : Bool). isStartOf n c && b) h ∙ and-false (isStartOf n c)
+    not-started (A.empty z) = refl
+
+    called : {c : Call} → A.Reach d t room c → After c
+    called {c = c} (A.nowhere a x s q) =
+        idle c (result a x nothing false (afterClock t d)) q clocked (not-started s) refl
+    called (A.showing k q) =
+        idle (show k) (shownIn (afterTick (endpointAt (d .endpoints) k) t) t k d) q ticked refl refl
+    called {c = c} (A.stepping by k f q l) = bcase (eqb k n) (own c by k f q l) (other c by k f q l)
+
+-- ---- every list
+step : (n : ℕ) (x : Watched) (s : Step) → Held n (x .device) (x .count)
+    → Held n (afterStep n x s .device) (afterStep n x s .count)
+step n x (load ws) k = record { sound = loaded-sound ws; same = loaded-none ws n; most = lit≤ tt }
+step n x (call t room c) k = called n (x .device) (x .count) k t room (A.reach (x .device) t room c)
+
+steps : (n : ℕ) (l : List Step) (x : Watched) → Held n (x .device) (x .count)
+    → Held n (afterSteps n x l .device) (afterSteps n x l .count)
+unfolding afterSteps
+steps n [] x k = k
+steps n (s ∷ l) x k = steps n l (afterStep n x s) (step n x s k)
+
+pub request-count : RequestCount
+request-count n l =
+    let h = steps n l (watched unloaded 0)
+    (record { sound = unloaded-sound; same = unloaded-none n; most = lit≤ tt }) in
+    (h .same, h .most)

@@ -1,0 +1,34 @@
+-- What a call puts on the bus, and bytes as the reader takes them.
+use mathlib.Core.Bool.{Bool, false, _&&_}
+use mathlib.Core.List.{List, []}
+use Prim.Native.Nat.{ℕ}
+use lib.Dec.{eqb}
+use Rattle.frame.specs.declared.Command.the-variants as K
+use Rattle.frame.specs.declared.Reading.{Reading}
+use Rattle.frame.specs.declared.Reading.the-variants.{Frame, Refused}
+use Rattle.frame.specs.Control.{is}
+use Rattle.frame.specs.Reading.{readingOf}
+use Rattle.frame.specs.Writing.{frameBytes}
+use Rattle.steps.specs.Frames.{Written, nothing, frame, value}
+
+-- the bytes of the frame that a call wrote; a value is its user's
+abbrev pub onBus : Written → List ℕ
+onBus nothing = []
+onBus (frame f body) = frameBytes f body
+onBus (value bytes) = []
+
+-- a frame of the CID
+abbrev pub isOf : ℕ → Reading → Bool
+isOf cid (Frame f from to) = eqb (f .connection) cid
+isOf cid (Refused fault) = false
+
+abbrev pub isFrameOf : ℕ → List ℕ → Bool
+isFrameOf cid s = isOf cid (readingOf s)
+
+-- an S-Refresh of the CID
+abbrev pub isRefreshIn : ℕ → Reading → Bool
+isRefreshIn cid (Frame f from to) = eqb (f .connection) cid && is (f .command) K.Refresh
+isRefreshIn cid (Refused fault) = false
+
+abbrev pub isRefreshOf : ℕ → List ℕ → Bool
+isRefreshOf cid s = isRefreshIn cid (readingOf s)

@@ -1,0 +1,1 @@
+// Lists of steps on devices: definitions and laws, no code.
