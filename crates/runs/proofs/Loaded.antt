@@ -23,7 +23,7 @@ use Rattle.steps.proofs.Keeps.{bcase}
 use Rattle.settings.specs.Words.{restOf, isTicks, hasKinds}
 use Rattle.settings.specs.Lists.{wordOf, connectionAt, settingsAt, isConnectionAt, isNewAt, areConnections, countOf}
 use Rattle.settings.specs.Lists.{isList}
-use Rattle.settings.proofs.Counts.{count-le}
+use Rattle.settings.proofs.Lists.{count-le, are-connections}
 use Rattle.device.specs.declared.Device.{Device}
 use Rattle.device.specs.declared.Entry.the-variants.{At}
 use Rattle.device.specs.declared.load.Loaded.{Loaded}
@@ -174,11 +174,6 @@ pub record Table (d : Device) (cid n : ℕ) : Type 0 where
   pub has : endpointAt (d .endpoints) n .settings .connection ≡ cid
   pub others : (i : ℕ) → i < d .count → i < 8 → (i ≡ n → ⊥) → endpointAt (d .endpoints) i .settings .connection ≡ cid
       → ⊥
-
-are-connections : (ws : List ℕ) → isList ws ≡ true → areConnections ws (countOf ws) ≡ true
-unfolding isList
-are-connections ws h =
-    and-right (eqb (length ws % 7) 0 && leb 1 (countOf ws) && leb (countOf ws) 8) (areConnections ws (countOf ws)) h
 
 tableOf : List ℕ → Device
 tableOf ws = record { last = Never; count = countOf ws; endpoints = freshUpTo ws (countOf ws) }

@@ -1,2 +1,2 @@
 -- What a right list tells.
-pub mod Counts
+pub mod Lists

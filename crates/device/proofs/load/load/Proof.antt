@@ -5,7 +5,7 @@ use borrow.Author.Tests.{not-true, not-false}
 use mathlib.Core.Bool.{true}
 use mathlib.Core.Path.{_≡_, sym, _∙_}
 use native.Mathlib.Omega.{arith}
-use Rattle.settings.proofs.Counts.{count-le}
+use Rattle.settings.proofs.Lists.{count-le}
 use Rattle.settings.specs.Lists.{countOf, isList}
 use Rattle.device.proofs.load.load.Statement.{statement}
 use Rattle.device.proofs.load.load.Tie as tie
