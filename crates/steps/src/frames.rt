@@ -18,6 +18,7 @@ use frame::Command;
 use frame::Fields;
 use frame::Subconnection;
 use frame::TIMESTAMP_MODULUS;
+use words::put_word;
 
 // The data of a setup request: the first length bytes.
 pub struct SetupData {
@@ -28,24 +29,12 @@ pub struct SetupData {
 fn four_words(a: u32, b: u32, c: u32, d: u32) -> [u8; 16]
     ensures { λ r. ⌜ r ≡ wordBytes a ++ (wordBytes b ++ (wordBytes c ++ wordBytes d)) ⌝ }
 {
-    [
-        (a / 16777216) as u8,
-        (a / 65536 % 256) as u8,
-        (a / 256 % 256) as u8,
-        (a % 256) as u8,
-        (b / 16777216) as u8,
-        (b / 65536 % 256) as u8,
-        (b / 256 % 256) as u8,
-        (b % 256) as u8,
-        (c / 16777216) as u8,
-        (c / 65536 % 256) as u8,
-        (c / 256 % 256) as u8,
-        (c % 256) as u8,
-        (d / 16777216) as u8,
-        (d / 65536 % 256) as u8,
-        (d / 256 % 256) as u8,
-        (d % 256) as u8,
-    ]
+    let mut bytes = [0u8; 16];
+    put_word(&mut bytes, 0, a);
+    put_word(&mut bytes, 4, b);
+    put_word(&mut bytes, 8, c);
+    put_word(&mut bytes, 12, d);
+    bytes
 }
 
 fn one_word(v: u32) -> SetupData
