@@ -9,7 +9,7 @@ use lib.ListN.{length, take, drop}
 unfoldable pub put : List ℕ → ℕ → List ℕ → List ℕ
 put out k bytes = take k out ++ bytes ++ drop (k + length bytes) out
 
--- the same where all of them fit, else `out` as it is
+-- the same where all of them fit; else `out` stays as it is
 unfoldable pub putWhole : List ℕ → ℕ → List ℕ → List ℕ
 putWhole out k bytes = cond (leb (k + length bytes) (length out)) (put out k bytes) out
 

@@ -49,7 +49,7 @@ pub fn word_at(s: &[u8], k: usize) -> u32
     word_of(byte_at(t, 0), byte_at(t, 1), byte_at(t, 2), byte_at(t, 3))
 }
 
-// The word v at byte k, where it fits.
+// The word v at byte k; nothing where it does not fit.
 pub fn put_word(out: &mut [u8], k: usize, v: u32)
     ensures { λ _. ⌜ now (out .exit) ≡ putWhole (now (out .entry)) k (wordBytes v) ⌝ }
 {
