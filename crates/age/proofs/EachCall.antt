@@ -69,28 +69,10 @@ flip true x = refl
 flip false x = refl
 
 module _ (cid : ℕ) (slave : Bool) (m : ℕ) (d₀ : Device) (n : ℕ) (T : Table d₀ cid n) (d : Device) (same : Like d d₀)
-    (t room : ℕ) (reading : isReading (d .last) t ≡ true) (log : List L.Entry) (good : AllGood cid log) (took : ℕ)
+    (t room : ℕ) (reading : isReading (d .last) t ≡ true) (log : List L.Sent) (good : AllGood cid log) (took : ℕ)
   where
     abbrev Match : Call → Type 0
     Match c = Matches cid slave m d n t room log took c
-
-    -- the endpoint took the clock step only, and nothing of the CID was written, shown or taken
-    idles : (c : Call)
-        → endpointAt (callIn d t room c .device .endpoints) n ≡ afterTick (endpointAt (d .endpoints) n) t
-        → isFrameOf cid (onBus (callIn d t room c .writes)) ≡ false
-        → showsValue cid d c (callIn d t room c) ≡ false
-        → tookBy cid (toLog log) c (isDone (callIn d t room c .answer)) took ≡ took
-        → Like (callIn d t room c .device) d
-        → Match c
-    idles = idle cid slave m d n t room reading log took
-
-    clocks : (c : Call)
-        → callIn d t room c .device ≡ clockStep t d
-        → isFrameOf cid (onBus (callIn d t room c .writes)) ≡ false
-        → showsValue cid d c (callIn d t room c) ≡ false
-        → tookBy cid (toLog log) c (isDone (callIn d t room c .answer)) took ≡ took
-        → Match c
-    clocks = only-clock cid slave m d n t room reading log took
 
     -- the CID's entry, and its CID
     the-entry : entryOf cid (d .count) (d .endpoints) ≡ At n
@@ -117,7 +99,7 @@ module _ (cid : ℕ) (slave : Bool) (m : ℕ) (d₀ : Device) (n : ℕ) (T : Tab
     nowhere : {c : Call} (a : Answer) (x : Entry) → A.Still c a
         → callIn d t room c ≡ result a x W.nothing false (afterClock t d) → Match c
     nowhere {c = c} a x s q =
-        clocks c (ap (λ (r : Result). r .device) q ∙ clocked cid slave m d n t room reading log took)
+        only-clock cid slave m d n t room log took c (ap (λ (r : Result). r .device) q ∙ clocked d t reading)
         (ap (λ (r : Result). isFrameOf cid (onBus (r .writes))) q ∙ empty cid)
         (ap (showsValue cid d c) q ∙ silent s)
         (ap (λ (r : Result). tookBy cid (toLog log) c (isDone (r .answer)) took) q ∙ none s)
@@ -133,16 +115,14 @@ module _ (cid : ℕ) (slave : Bool) (m : ℕ) (d₀ : Device) (n : ℕ) (T : Tab
             ∙ ap (λ (b : Bool). cond b (lastOf s (toLog log)) took) (and-false (isDone a))
 
     -- ---- a show
-    module _ (k : ℕ)
-        (q : callIn d t room (show k) ≡ shownIn (afterTick (endpointAt (d .endpoints) k) t) t k d) where
-      shows-other : eqb n k ≡ false → Match (show k)
-      shows-other b =
-          let r = callIn d t room (show k) in
-          clocks (show k) (ap (λ (r : Result). r .device) q)
-          (ap (λ (r : Result). isFrameOf cid (onBus (r .writes))) q ∙ empty cid)
-          (ap (λ (i : Bool). i && (isDone (r .answer) && not (r .failsafe)))
-          (ap (λ (y : Entry). isAt y k) the-entry ∙ b))
-          refl
+    shows-other : (k : ℕ) → callIn d t room (show k) ≡ shownIn (afterTick (endpointAt (d .endpoints) k) t) t k d
+        → eqb n k ≡ false → Match (show k)
+    shows-other k q b =
+        let r = callIn d t room (show k) in
+        only-clock cid slave m d n t room log took (show k) (ap (λ (r : Result). r .device) q)
+        (ap (λ (r : Result). isFrameOf cid (onBus (r .writes))) q ∙ empty cid)
+        (ap (λ (i : Bool). i && (isDone (r .answer) && not (r .failsafe))) (ap (λ (y : Entry). isAt y k) the-entry ∙ b))
+        refl
 
     shows-own : callIn d t room (show n) ≡ shownIn (afterTick (endpointAt (d .endpoints) n) t) t n d → Match (show n)
     unfolding toLog
@@ -274,7 +254,7 @@ module _ (cid : ℕ) (slave : Bool) (m : ℕ) (d₀ : Device) (n : ℕ) (T : Tab
       steps-other : (k ≡ n → ⊥) → Match c
       steps-other ne =
           let counted = subst (λ (i : ℕ). k < i) (same .counts) (live .counted) in
-          idles c
+          idle cid slave m d n t room log took c
           (ap (λ (r : Result). endpointAt (r .device .endpoints) n) is
           ∙ placed-there (clockStep t d) k n (o .endpoint) (λ q. ne (sym q)) ∙ ticked-at d t n)
           (ap (λ (r : Result). isFrameOf cid (onBus (r .writes))) is
@@ -303,7 +283,7 @@ module _ (cid : ℕ) (slave : Bool) (m : ℕ) (d₀ : Device) (n : ℕ) (T : Tab
                 ∙ sym (ap (λ (y : Outcome). toLog (L.logged slave m by (y .writes))) does);
             good = subst (λ (y : Outcome). AllGood cid (L.logged slave m by (y .writes))) (sym does)
                 (own-good cid slave m by e (o .writes) (step-laws .carries e t by) has);
-            shows = not-shown cid slave m d n t room reading log took c (callIn d t room c)
+            shows = not-shown cid slave m d n t room log took c (callIn d t room c)
                 (no-show names (callIn d t room c)) ∙ sym (no-show-by names _);
             takes = ap (λ (r : Result). tookBy cid (toLog log) c (isDone (r .answer)) took) is
                 ∙ took-own names k≡n may (o .answer) ∙ sym (ap (λ (y : Outcome). L.tookBy log by (y .answer) took) does);

@@ -1,6 +1,6 @@
 -- The theorem's premises can be met: two devices are loaded, the line starts, its station at first not ready,
 -- refreshes both ways, and shows both values. All of it is computed.
-use mathlib.Core.Path.{_≡_, refl}
+use mathlib.Core.Path.{_≡_, refl, ap}
 use mathlib.Core.Bool.{Bool, true, false}
 use mathlib.Core.List.{List, [], _∷_, _++_}
 use Prim.Native.Nat.{ℕ, _+_}
@@ -86,17 +86,22 @@ unfolding list cid connectionAt settingsAt isConnectionAt isNewAt areConnections
     findFrom entryOf
 slave = record { done = refl; entry = 0; there = refl; role = refl }
 
-allowed : run .allowed ≡ true
-unfolding run line exchange answered data-of clocks at-master at-slave list cid afterAll lastFrom lastOf
-    endpointAt findFrom entryOf freshUpTo tickedAll connectionAt settingsAt isConnectionAt isNewAt areConnections isList
-    setupData controlOf hasForm hasCheckWord fieldsIn readingOfCopies readingOf headBytes withCheckWord twice
-    subBytes frameBytes isWritable bitStep bitSteps byteStep crcFrom crc
-allowed = refl
+values : List L.Show
+values = L.shown true 5070 (1 ∷ 2 ∷ 3 ∷ 4 ∷ []) 13 13 ∷ L.shown false 5080 (5 ∷ 6 ∷ 7 ∷ 8 ∷ []) 14 14 ∷ []
 
-shown : run .shows
-    ≡ (L.shown true 5070 (1 ∷ 2 ∷ 3 ∷ 4 ∷ []) 13 13 ∷ L.shown false 5080 (5 ∷ 6 ∷ 7 ∷ 8 ∷ []) 14 14 ∷ [])
-unfolding run line exchange answered data-of clocks at-master at-slave list cid afterAll lastFrom lastOf
+-- both facts at once, so that the run is computed once
+abbrev told : Run → Bool × List L.Show
+told r = (r .allowed, r .shows)
+
+computed : told run ≡ (true, values)
+unfolding run line exchange answered data-of clocks at-master at-slave list cid values afterAll lastFrom lastOf
     endpointAt findFrom entryOf freshUpTo tickedAll connectionAt settingsAt isConnectionAt isNewAt areConnections isList
     setupData controlOf hasForm hasCheckWord fieldsIn readingOfCopies readingOf headBytes withCheckWord twice
     subBytes frameBytes isWritable bitStep bitSteps byteStep crcFrom crc
-shown = refl
+computed = refl
+
+allowed : run .allowed ≡ true
+allowed = ap (λ (x : Bool × List L.Show). x .0) computed
+
+shown : run .shows ≡ values
+shown = ap (λ (x : Bool × List L.Show). x .1) computed

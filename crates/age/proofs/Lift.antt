@@ -49,7 +49,7 @@ record Side (d₀ : Device) (n : ℕ) (d : Device) (e : Endpoint) (took took′ 
 
 -- a call at that end, and the one that does the same to the endpoint
 record Both (cid : ℕ) (slave : Bool) (m : ℕ) (d₀ : Device) (n : ℕ) (d : Device) (t room : ℕ) (c : Call)
-    (sent : List Sent) (log : List L.Entry)
+    (sent : List Sent) (log : List L.Sent)
     (e : Endpoint) (took took′ : ℕ) : Type 0 where
   by : S.Call
   side : Side d₀ n (callIn d t room c .device) (S.callOf e t by .endpoint)
@@ -64,7 +64,7 @@ record Both (cid : ℕ) (slave : Bool) (m : ℕ) (d₀ : Device) (n : ℕ) (d : 
 
 one-step : (cid : ℕ) (slave : Bool) (m : ℕ) (d₀ : Device) (n : ℕ) → Table d₀ cid n
     → (d : Device) (t room : ℕ) (c : Call) (sent : List Sent)
-    (log : List L.Entry) (e : Endpoint) (took took′ : ℕ)
+    (log : List L.Sent) (e : Endpoint) (took took′ : ℕ)
     → Side d₀ n d e took took′ → sent ≡ toLog log → AllGood cid log
     → isReading (d .last) t ≡ true → mayDeliver cid sent c ≡ true
     → Both cid slave m d₀ n d t room c sent log e took took′
@@ -255,19 +255,19 @@ module _ (wm ws : List ℕ) (cid : ℕ) (hm : Holds wm cid false) (hs : Holds ws
     longs : length (x .log) ≡ length (l .log)
     longs = sym (toLog-length (x .log)) ∙ ap length (sym (S .log))
 
-    sends : (y : L.Show) (bound k : ℕ) → k < length (x .log) → F.ItsSend bound y (L.entryAt (x .log) k)
+    sends : (y : L.Show) (bound k : ℕ) → k < length (x .log) → F.ItsSend bound y (L.sentAt (x .log) k)
         → ItsSend cid bound y (sentAt (l .log) k)
     unfolding toSent
     sends y bound k h w =
         let g = good-at cid (S .good) k h in
-        let e = L.entryAt (x .log) k in
+        let e = L.sentAt (x .log) k in
         subst (ItsSend cid bound y) (sym (ap (λ (s : List Sent). sentAt s k) (S .log) ∙ sent-at (x .log) k h)) (record {
           other = w .other;
           refresh = refresh-of cid (e .fields) (e .body) (g .readable)
               ∙ both (eq-eqb (e .fields .connection) cid (g .has)) (w .refresh);
           value = w .value;
           before = w .before;
-          young = w .young;
+          young = omega arith;
         })
 
     fresh : Fresh cid sm ss l

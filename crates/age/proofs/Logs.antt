@@ -35,43 +35,43 @@ pub refresh-of : (cid : ℕ) (f : Fields) (body : List ℕ) → Readable f body
 refresh-of cid f body w = ap (isRefreshIn cid) (round-trip .there f body w .0)
 
 -- ---- the log
-unfoldable pub toSent : L.Entry → Sent
+unfoldable pub toSent : L.Sent → Sent
 toSent w = record { slave = w .slave; moment = w .moment; bytes = frameBytes (w .fields) (w .body); lent = w .lent }
 
-unfoldable pub toLog : List L.Entry → List Sent
+unfoldable pub toLog : List L.Sent → List Sent
 toLog l = map toSent l
 
-pub toLog-append : (a b : List L.Entry) → toLog (a ++ b) ≡ toLog a ++ toLog b
+pub toLog-append : (a b : List L.Sent) → toLog (a ++ b) ≡ toLog a ++ toLog b
 unfolding toLog
 toLog-append [] b = refl
 toLog-append (x ∷ a) b = ap (λ (l : List Sent). toSent x ∷ l) (toLog-append a b)
 
-pub toLog-length : (l : List L.Entry) → length (toLog l) ≡ length l
+pub toLog-length : (l : List L.Sent) → length (toLog l) ≡ length l
 unfolding toLog
 toLog-length [] = refl
 toLog-length (x ∷ l) = ap suc (toLog-length l)
 
-pub sent-at : (l : List L.Entry) (i : ℕ) → i < length l → sentAt (toLog l) i ≡ toSent (L.entryAt l i)
-unfolding toLog sentAt L.entryAt
+pub sent-at : (l : List L.Sent) (i : ℕ) → i < length l → sentAt (toLog l) i ≡ toSent (L.sentAt l i)
+unfolding toLog sentAt L.sentAt
 sent-at [] i h = absurd (not-suc-le-zero h)
 sent-at (x ∷ l) zero h = refl
 sent-at (x ∷ l) (suc i) h = sent-at l i (le-of-suc-le-suc h)
 
 -- every frame in the log reads back, and is of the CID
-pub record Good (cid : ℕ) (w : L.Entry) : Type 0 where
+pub record Good (cid : ℕ) (w : L.Sent) : Type 0 where
   pub readable : Readable (w .fields) (w .body)
   pub has : w .fields .connection ≡ cid
 
-pub data AllGood (cid : ℕ) : List L.Entry → Type 0 where
+pub data AllGood (cid : ℕ) : List L.Sent → Type 0 where
   no-more : AllGood cid []
-  and-more : {w : L.Entry} {l : List L.Entry} → Good cid w → AllGood cid l → AllGood cid (w ∷ l)
+  and-more : {w : L.Sent} {l : List L.Sent} → Good cid w → AllGood cid l → AllGood cid (w ∷ l)
 
-pub good-append : (cid : ℕ) {a b : List L.Entry} → AllGood cid a → AllGood cid b → AllGood cid (a ++ b)
+pub good-append : (cid : ℕ) {a b : List L.Sent} → AllGood cid a → AllGood cid b → AllGood cid (a ++ b)
 good-append cid no-more b = b
 good-append cid (and-more g a) b = and-more g (good-append cid a b)
 
-pub good-at : (cid : ℕ) {l : List L.Entry} → AllGood cid l → (i : ℕ) → i < length l → Good cid (L.entryAt l i)
-unfolding L.entryAt
+pub good-at : (cid : ℕ) {l : List L.Sent} → AllGood cid l → (i : ℕ) → i < length l → Good cid (L.sentAt l i)
+unfolding L.sentAt
 good-at cid no-more i h = absurd (not-suc-le-zero h)
 good-at cid (and-more g a) zero h = g
 good-at cid (and-more g a) (suc i) h = good-at cid a i (le-of-suc-le-suc h)
@@ -106,7 +106,7 @@ same-frames f g b c v w =
     let q = same-eq b c (and-right (L.sameFields f g) (same b c) h) in
     ap (same (frameBytes f b)) (sym (ap₂ frameBytes p q)) ∙ same-refl (frameBytes f b))
 
-last-from : (cid n : ℕ) (f : Fields) (b : List ℕ) → Readable f b → (l : List L.Entry) → AllGood cid l → (found : ℕ)
+last-from : (cid n : ℕ) (f : Fields) (b : List ℕ) → Readable f b → (l : List L.Sent) → AllGood cid l → (found : ℕ)
     → lastFrom n (frameBytes f b) (toLog l) found ≡ L.lastFrom n f b l found
 unfolding lastFrom L.lastFrom toLog toSent
 last-from cid n f b w [] no-more found = refl
@@ -115,7 +115,7 @@ last-from cid n f b w (x ∷ l) (and-more g a) found =
     (same-frames f (x .fields) b (x .body) w (g .readable))
     ∙ last-from cid (suc n) f b w l a _
 
-pub last-of : (cid : ℕ) (f : Fields) (b : List ℕ) → Readable f b → (l : List L.Entry) → AllGood cid l
+pub last-of : (cid : ℕ) (f : Fields) (b : List ℕ) → Readable f b → (l : List L.Sent) → AllGood cid l
     → lastOf (frameBytes f b) (toLog l) ≡ L.lastOf f b l
 unfolding lastOf L.lastOf
 last-of cid f b w l a = last-from cid 0 f b w l a 0
@@ -131,7 +131,7 @@ record Origin (s : List ℕ) : Type 0 where
   body : List ℕ
   writing : WritingOf s fields body
 
-origin : (cid n : ℕ) (s : List ℕ) (l : List L.Entry) → AllGood cid l → 1 ≤ lastFrom n s (toLog l) 0 → Origin s
+origin : (cid n : ℕ) (s : List ℕ) (l : List L.Sent) → AllGood cid l → 1 ≤ lastFrom n s (toLog l) 0 → Origin s
 unfolding lastFrom toLog toSent
 origin cid n s [] no-more h = absurd (not-suc-le-zero h)
 origin cid n s (x ∷ l) (and-more g a) h =
@@ -144,7 +144,7 @@ origin cid n s (x ∷ l) (and-more g a) h =
     (λ q. origin cid (suc n) s l a
     (subst (λ (b : Bool). 1 ≤ lastFrom (suc n) s (toLog l) (cond b (suc n) 0)) q h))
 
-pub writing-of : (cid : ℕ) (s : List ℕ) (l : List L.Entry) → AllGood cid l → 1 ≤ lastOf s (toLog l)
+pub writing-of : (cid : ℕ) (s : List ℕ) (l : List L.Sent) → AllGood cid l → 1 ≤ lastOf s (toLog l)
     → (f : Fields) (from to : ℕ) → readingOf s ≡ Frame f from to → WritingOf s f (slice from to s)
 unfolding lastOf
 writing-of cid s l a h f from to is-frame =

@@ -69,7 +69,7 @@ own-good cid slave m by x (frame f body) c q =
 own-good cid slave m by x (value bytes) c q = no-more
 
 -- the call that does the same to the endpoint at n
-pub record Matches (cid : ℕ) (slave : Bool) (m : ℕ) (d : Device) (n t room : ℕ) (log : List L.Entry) (took : ℕ)
+pub record Matches (cid : ℕ) (slave : Bool) (m : ℕ) (d : Device) (n t room : ℕ) (log : List L.Sent) (took : ℕ)
     (call : Call) : Type 0 where
   pub by : S.Call
   pub endpoint : endpointAt (callIn d t room call .device .endpoints) n
@@ -84,8 +84,10 @@ pub record Matches (cid : ℕ) (slave : Bool) (m : ℕ) (d : Device) (n t room :
   pub may : L.mayDeliver log by ≡ true
   pub like : Like (callIn d t room call .device) d
 
-module _ (cid : ℕ) (slave : Bool) (m : ℕ) (d : Device) (n t room : ℕ) (reading : isReading (d .last) t ≡ true)
-    (log : List L.Entry) (took : ℕ) where
+pub clocked : (d : Device) (t : ℕ) → isReading (d .last) t ≡ true → afterClock t d ≡ clockStep t d
+clocked d t reading = cond-true (isReading (d .last) t) (clockStep t d) d reading
+
+module _ (cid : ℕ) (slave : Bool) (m : ℕ) (d : Device) (n t room : ℕ) (log : List L.Sent) (took : ℕ) where
   abbrev Match : Call → Type 0
   Match call = Matches cid slave m d n t room log took call
 
@@ -121,9 +123,6 @@ module _ (cid : ℕ) (slave : Bool) (m : ℕ) (d : Device) (n t room : ℕ) (rea
         may = refl;
         like = li;
       }
-
-  pub clocked : afterClock t d ≡ clockStep t d
-  clocked = cond-true (isReading (d .last) t) (clockStep t d) d reading
 
   -- the same of a call that left what the clock step leaves
   pub only-clock : (call : Call)

@@ -102,6 +102,7 @@ deviceAfter end l slave r = cond (Bool·beq end slave) (r .device) (deviceAt l e
 abbrev pub isAccepted : Run → Bool → ℕ → Bool
 isAccepted l slave t = isReading (deviceAt l slave .last) t
 
+-- m, a call's moment, is not before the last call's
 abbrev pub neverFalls : Run → ℕ → Bool
 neverFalls l m = leb (l .latest) m
 
@@ -179,6 +180,7 @@ afterCall cid clocks l slave t c r =
       allowed = l .allowed && (mayDeliver cid (l .log) c && neverFalls l m);
     }
 
+-- a call given 1 is left out
 abbrev pub afterStep : ℕ → Clocks → Run → Bool → Step → Run
 afterStep cid clocks l slave (load ws) = notAllowed l
 afterStep cid clocks l slave (call t room c) =

@@ -17,7 +17,7 @@ use Rattle.steps.proofs.Dispatch.{cond-false}
 use Rattle.steps.proofs.Keeps.{bcase}
 use Rattle.steps.specs.Steps.{Call, act, send, deliver, show, callOf}
 use Rattle.link.specs.Runs.{Clocks, momentOf, Event}
-use Rattle.link.specs.Runs.{Entry, entryAt, logged, Show, shown, showAt, Link, mayDeliver, tookBy}
+use Rattle.link.specs.Runs.{Sent, sentAt, logged, Show, shown, showAt, Link, mayDeliver, tookBy}
 use Rattle.link.specs.Runs.{shownBy}
 use Rattle.link.specs.Runs.{afterEvent, afterAll, begun}
 use Rattle.link.specs.Fresh.{Paired, boundOf, ItsSend, Fresh, AgeTheorem, Silence}
@@ -37,7 +37,7 @@ pub record RunInv (c : Clocks) (sm ss : Settings) (l : Link) : Type 0 where
 
 module _ (c : Clocks) (sm ss : Settings) (p : Paired sm ss) where
   -- time passes
-  linked-later : {now : ℕ} {log : List Entry} {em es : Endpoint} {tm ts : ℕ} (m : ℕ) → now ≤ m
+  linked-later : {now : ℕ} {log : List Sent} {em es : Endpoint} {tm ts : ℕ} (m : ℕ) → now ≤ m
       → Linked c sm ss now log em es tm ts
       → Linked c sm ss m log em es tm ts
   linked-later m h L = record {
@@ -52,7 +52,7 @@ module _ (c : Clocks) (sm ss : Settings) (p : Paired sm ss) where
   }
 
   -- ---- what a call adds to the shows
-  quiet : (log : List Entry) (tm ts : ℕ) (shows : List Show) → ShowsInv sm ss log tm ts shows
+  quiet : (log : List Sent) (tm ts : ℕ) (shows : List Show) → ShowsInv sm ss log tm ts shows
       → ShowsInv sm ss log tm ts (shows ++ [])
   quiet log tm ts shows v = subst (ShowsInv sm ss log tm ts) (sym (append-nil shows)) v
 
@@ -63,8 +63,8 @@ module _ (c : Clocks) (sm ss : Settings) (p : Paired sm ss) where
   bound-s = ap (λ (b : Bool). ss .age + (ss .interval + cond b 0 (ss .roundtrip))) (sym (p .slave))
 
   -- a show at either end, whose value has its send
-  shows-at : (slave : Bool) (log : List Entry) (e : Endpoint) (tm ts m t : ℕ) (shows : List Show)
-      → ((i : ℕ) → i < length log → Honest (entryAt log i))
+  shows-at : (slave : Bool) (log : List Sent) (e : Endpoint) (tm ts m t : ℕ) (shows : List Show)
+      → ((i : ℕ) → i < length log → Honest (sentAt log i))
       → (isExpired e t ≡ false → isFailSafe e ≡ false
       → ShownAt (marks log) (cond slave 0 2) (cond slave ts tm) m (boundOf (cond slave ss sm)) (shownOf e))
       → ShowsInv sm ss log tm ts shows
@@ -80,8 +80,8 @@ module _ (c : Clocks) (sm ss : Settings) (p : Paired sm ss) where
       (sent-by sm ss log slave (cond slave ts tm) m (shownOf e) honest (its n f)) refl v))))
 
   -- what a call adds to the shows, whatever the call; what it writes and takes comes after
-  adds : (slave : Bool) (log : List Entry) (e : Endpoint) (tm ts m t : ℕ) (shows : List Show) (call : Call)
-      → ((i : ℕ) → i < length log → Honest (entryAt log i))
+  adds : (slave : Bool) (log : List Sent) (e : Endpoint) (tm ts m t : ℕ) (shows : List Show) (call : Call)
+      → ((i : ℕ) → i < length log → Honest (sentAt log i))
       → (isExpired e t ≡ false → isFailSafe e ≡ false
       → ShownAt (marks log) (cond slave 0 2) (cond slave ts tm) m (boundOf (cond slave ss sm)) (shownOf e))
       → ShowsInv sm ss log tm ts shows
@@ -209,7 +209,7 @@ module _ (c : Clocks) (sm ss : Settings) (p : Paired sm ss) where
         let a = s .sent in
         let q : s .place ≡ k = omega arith in
         subst (λ (n : ℕ). ItsSend (boundOf (cond (showAt (l .shows) i .slave) ss sm)) (showAt (l .shows) i)
-        (entryAt (l .log) n)) q (s .fits);
+        (sentAt (l .log) n)) q (s .fits);
     in-order = r .shown .order;
   }
 
@@ -225,7 +225,7 @@ silence sm ss c vs slave last p h before i k e =
     let f = s .fits in
     let m = before (s .place) (let a = s .early in let b = s .known in omega arith) (f .other ∙ ap not e)
     (f .refresh) in
-    let y : showAt (l .shows) i .moment ≤ entryAt (l .log) (s .place) .moment + boundOf (cond slave ss sm) =
-    subst (λ (b : Bool). showAt (l .shows) i .moment ≤ entryAt (l .log) (s .place) .moment + boundOf (cond b ss sm)) e
+    let y : showAt (l .shows) i .moment ≤ sentAt (l .log) (s .place) .moment + boundOf (cond slave ss sm) =
+    subst (λ (b : Bool). showAt (l .shows) i .moment ≤ sentAt (l .log) (s .place) .moment + boundOf (cond b ss sm)) e
     (f .young) in
     omega arith

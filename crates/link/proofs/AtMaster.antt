@@ -28,7 +28,7 @@ use Rattle.steps.specs.Deliveries.{paddedOf}
 use Rattle.steps.specs.Laws.{RequestSent, RefreshSent, StopDone, ReplyTaken, RefreshTaken}
 use Rattle.steps.proofs.Dispatch.{cond-false}
 use Rattle.steps.proofs.Keeps.{bcase}
-use Rattle.link.specs.Runs.{Clocks, Entry}
+use Rattle.link.specs.Runs.{Clocks, Sent}
 use Rattle.link.specs.Fresh.{Paired}
 use Rattle.link.proofs.Marks.{Mark, mark, at, snoc, Has}
 use Rattle.link.proofs.Invariant.{Terms, Small, MPhase, restM, asked, got, liveM, Master, Inv, MPh, GoOf, wobble}
@@ -42,7 +42,7 @@ use Rattle.link.proofs.Shown.{ShownAt, in-refresh, held-shown}
 use Rattle.link.proofs.Codes.{go-due, go-baseline, request-not-refresh, setup-not-refresh, refresh-not-setup}
 use Rattle.link.proofs.Codes.{pending-setup, busy-due}
 
-module _ (c : Clocks) (sm ss : Settings) (p : Paired sm ss) {l : List Entry} {em es : Endpoint} {tm ts : ℕ} (t : ℕ)
+module _ (c : Clocks) (sm ss : Settings) (p : Paired sm ss) {l : List Sent} {em es : Endpoint} {tm ts : ℕ} (t : ℕ)
     (lim : t ≤ lastReading)
     (L : Linked c sm ss (t + c .master) l em es tm ts) where
   T : Terms
@@ -98,7 +98,7 @@ module _ (c : Clocks) (sm ss : Settings) (p : Paired sm ss) {l : List Entry} {em
   restarted-m = rest (restartedOf em) (L .setM) refl refl refl (λ h. absurd (false≢true h)) refl
 
   -- a frame is written; the endpoint is then another
-  wrote : (e : Endpoint) (w : Entry) (code baseline : ℕ) (body : List ℕ) (phase : MPhase) → e .settings ≡ sm
+  wrote : (e : Endpoint) (w : Sent) (code baseline : ℕ) (body : List ℕ) (phase : MPhase) → e .settings ≡ sm
       → markOf w ≡ mark 0 code t baseline (t + c .master) body → Honest w → topOf (em .timestamps .sent) ≤ t
       → (code ≡ 254 → Has (GoOf (termsOf c sm ss) (marks l) (mark 0 code t baseline (t + c .master) body)) (marks l))
       → MPh (termsOf c sm ss) (marks l) (suc t) (L .master .held) phase
@@ -122,7 +122,7 @@ module _ (c : Clocks) (sm ss : Settings) (p : Paired sm ss) {l : List Entry} {em
 
   -- the request that is due
   module _ (value : List ℕ) (d : RequestSent em t value) (x : isExpired em t ≡ false) where
-    abbrev pub asking : Entry
+    abbrev pub asking : Sent
     asking = record {
       slave = false;
       moment = t + c .master;
@@ -187,7 +187,7 @@ module _ (c : Clocks) (sm ss : Settings) (p : Paired sm ss) {l : List Entry} {em
 
   -- S-Refresh with the lent value
   module _ (value : List ℕ) (d : RefreshSent em t value) where
-    abbrev pub refreshing : Entry
+    abbrev pub refreshing : Sent
     refreshing = record {
       slave = false;
       moment = t + c .master;
@@ -229,7 +229,7 @@ module _ (c : Clocks) (sm ss : Settings) (p : Paired sm ss) {l : List Entry} {em
 
   -- S-Disconnect
   module _ (d : StopDone em t) where
-    abbrev pub leaving : Entry
+    abbrev pub leaving : Sent
     leaving = record {
       slave = false;
       moment = t + c .master;

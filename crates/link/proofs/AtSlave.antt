@@ -31,7 +31,7 @@ use Rattle.steps.specs.Deliveries.{paddedOf}
 use Rattle.steps.specs.Laws.{RefreshSent, RequestTaken, RefreshTaken}
 use Rattle.steps.proofs.Dispatch.{cond-true}
 use Rattle.steps.proofs.Keeps.{bcase}
-use Rattle.link.specs.Runs.{Clocks, Entry}
+use Rattle.link.specs.Runs.{Clocks, Sent}
 use Rattle.link.specs.Fresh.{Paired}
 use Rattle.link.proofs.Marks.{Mark, mark, at, snoc}
 use Rattle.link.proofs.Ages.{Young}
@@ -44,7 +44,7 @@ use Rattle.link.proofs.Entries.{marked-body}
 use Rattle.link.proofs.Shown.{ShownAt, in-refresh, held-shown}
 use Rattle.link.proofs.Codes.{refresh-not-setup, pending-setup, targetOf, leads, go-from, busy-from}
 
-module _ (c : Clocks) (sm ss : Settings) (p : Paired sm ss) {l : List Entry} {em es : Endpoint} {tm ts : ℕ} (t : ℕ)
+module _ (c : Clocks) (sm ss : Settings) (p : Paired sm ss) {l : List Sent} {em es : Endpoint} {tm ts : ℕ} (t : ℕ)
     (lim : t ≤ lastReading)
     (L : Linked c sm ss (t + c .slave) l em es tm ts) where
   role : es .settings .slave ≡ true
@@ -111,7 +111,7 @@ module _ (c : Clocks) (sm ss : Settings) (p : Paired sm ss) {l : List Entry} {em
 
   -- S-Refresh with the lent value
   module _ (value : List ℕ) (d : RefreshSent es t value) where
-    abbrev pub refreshing : Entry
+    abbrev pub refreshing : Sent
     refreshing =
         record { slave = true; moment = t + c .slave; fields = refreshFields es t; body = value; lent = some value }
 
@@ -202,7 +202,7 @@ module _ (c : Clocks) (sm ss : Settings) (p : Paired sm ss) {l : List Entry} {em
           }
 
       -- a reply, with Busy or Error or neither
-      abbrev pub replying : Bool → Bool → Entry
+      abbrev pub replying : Bool → Bool → Sent
       replying busy error = record {
         slave = true;
         moment = t + c .slave;

@@ -25,7 +25,7 @@ use Rattle.steps.proofs.Dones.{send-done, stop-done, refresh-done, request-done
 use Rattle.steps.proofs.Firsts.{not-dropped}
 use Rattle.steps.proofs.Keeps.{bcase}
 use Rattle.steps.specs.Steps.{stop, Call, act, send, deliver, callOf}
-use Rattle.link.specs.Runs.{Clocks, Entry, logged, mayDeliver, tookBy}
+use Rattle.link.specs.Runs.{Clocks, Sent, logged, mayDeliver, tookBy}
 use Rattle.link.specs.Fresh.{Paired}
 use Rattle.link.proofs.Relation.{Linked}
 use Rattle.link.proofs.Entries.{FoundAt}
@@ -40,21 +40,21 @@ other-bit true false h = refl
 other-bit false true h = refl
 other-bit false false h = absurd (true≢false h)
 
-module _ (c : Clocks) (sm ss : Settings) (p : Paired sm ss) {l : List Entry} {em es : Endpoint} {tm ts : ℕ} (t : ℕ)
+module _ (c : Clocks) (sm ss : Settings) (p : Paired sm ss) {l : List Sent} {em es : Endpoint} {tm ts : ℕ} (t : ℕ)
     (lim : t ≤ lastReading) where
   -- ---- the master
   module _ (L : Linked c sm ss (t + c .master) l em es tm ts) where
     role : em .settings .slave ≡ false
     role = ap (λ (s : Settings). s .slave) (L .setM) ∙ p .master
 
-    abbrev AtM : List Entry → Endpoint → ℕ → Type 0
+    abbrev AtM : List Sent → Endpoint → ℕ → Type 0
     AtM x e n = Linked c sm ss (t + c .master) x e es n ts
 
     abbrev KeepsM : Call → Outcome → Type 0
     KeepsM call o = AtM (l ++ logged false (t + c .master) call (o .writes)) (o .endpoint) tm
 
     silent-m : (call : Call) (a : Answer) (x : Endpoint) → AtM l x tm → KeepsM call (outcome a x nothing)
-    silent-m call a x k = subst (λ (y : List Entry). AtM y x tm) (sym (append-nil l)) k
+    silent-m call a x k = subst (λ (y : List Sent). AtM y x tm) (sym (append-nil l)) k
 
     sent-m : (value : List ℕ) → isExpired em t ≡ false → sendOf em t value .answer ≡ Done
         → KeepsM (send value) (sendOf em t value)
@@ -114,14 +114,14 @@ module _ (c : Clocks) (sm ss : Settings) (p : Paired sm ss) {l : List Entry} {em
     slave-role : es .settings .slave ≡ true
     slave-role = ap (λ (s : Settings). s .slave) (L .setS) ∙ p .slave
 
-    abbrev AtS : List Entry → Endpoint → ℕ → Type 0
+    abbrev AtS : List Sent → Endpoint → ℕ → Type 0
     AtS x e n = Linked c sm ss (t + c .slave) x em e tm n
 
     abbrev KeepsS : Call → Outcome → Type 0
     KeepsS call o = AtS (l ++ logged true (t + c .slave) call (o .writes)) (o .endpoint) ts
 
     silent-s : (call : Call) (a : Answer) (x : Endpoint) → AtS l x ts → KeepsS call (outcome a x nothing)
-    silent-s call a x k = subst (λ (y : List Entry). AtS y x ts) (sym (append-nil l)) k
+    silent-s call a x k = subst (λ (y : List Sent). AtS y x ts) (sym (append-nil l)) k
 
     sent-s : (value : List ℕ) → sendOf es t value .answer ≡ Done → KeepsS (send value) (sendOf es t value)
     sent-s value h =

@@ -20,46 +20,46 @@ use Rattle.words.specs.Bytes.{same}
 use mathlib.Mathlib.Data.Bool.Basic.{and-elim-left as and-left, and-elim-right as and-right}
 use Rattle.words.proofs.Alike.{same-eq}
 use Rattle.frame.proofs.Digits.{command-of-code}
-use Rattle.link.specs.Runs.{Entry, noEntry, entryAt, sameFields, lastFrom, lastOf}
+use Rattle.link.specs.Runs.{Sent, noSent, sentAt, sameFields, lastFrom, lastOf}
 use Rattle.link.proofs.Marks.{Mark, mark, size, at, snoc}
 use Rattle.link.proofs.Relation.{whoOf, markOf, marks, Honest}
 
 -- ---- marks
-pub marks-snoc : (l : List Entry) (w : Entry) → marks (l ++ (w ∷ [])) ≡ snoc (marks l) (markOf w)
+pub marks-snoc : (l : List Sent) (w : Sent) → marks (l ++ (w ∷ [])) ≡ snoc (marks l) (markOf w)
 unfolding marks snoc
 marks-snoc [] w = refl
 marks-snoc (x ∷ l) w = ap (λ (m : List Mark). markOf x ∷ m) (marks-snoc l w)
 
-pub size-marks : (l : List Entry) → size (marks l) ≡ length l
+pub size-marks : (l : List Sent) → size (marks l) ≡ length l
 unfolding marks size
 size-marks [] = refl
 size-marks (x ∷ l) = ap suc (size-marks l)
 
-pub at-marks : (l : List Entry) (i : ℕ) → i < length l → at (marks l) i ≡ markOf (entryAt l i)
-unfolding marks at entryAt
+pub at-marks : (l : List Sent) (i : ℕ) → i < length l → at (marks l) i ≡ markOf (sentAt l i)
+unfolding marks at sentAt
 at-marks [] i h = absurd (not-suc-le-zero h)
 at-marks (x ∷ l) zero h = refl
 at-marks (x ∷ l) (suc i) h = at-marks l i (le-of-suc-le-suc h)
 
 -- ---- one more entry
-pub longer : (l : List Entry) (w : Entry) → length (l ++ (w ∷ [])) ≡ suc (length l)
+pub longer : (l : List Sent) (w : Sent) → length (l ++ (w ∷ [])) ≡ suc (length l)
 longer l w = length-append l (w ∷ []) ∙ add-one (length l)
 
-pub entry-old : (l : List Entry) (w : Entry) (i : ℕ) → i < length l → entryAt (l ++ (w ∷ [])) i ≡ entryAt l i
-unfolding entryAt
-entry-old l w i h = List·getD-append l (w ∷ []) noEntry i h
+pub entry-old : (l : List Sent) (w : Sent) (i : ℕ) → i < length l → sentAt (l ++ (w ∷ [])) i ≡ sentAt l i
+unfolding sentAt
+entry-old l w i h = List·getD-append l (w ∷ []) noSent i h
 
-pub entry-new : (l : List Entry) (w : Entry) → entryAt (l ++ (w ∷ [])) (length l) ≡ w
-unfolding entryAt
-entry-new l w = getD-append-seam l w [] noEntry
+pub entry-new : (l : List Sent) (w : Sent) → sentAt (l ++ (w ∷ [])) (length l) ≡ w
+unfolding sentAt
+entry-new l w = getD-append-seam l w [] noSent
 
-pub honest-snoc : (l : List Entry) (w : Entry) → ((i : ℕ) → i < length l → Honest (entryAt l i)) → Honest w
-    → (i : ℕ) → i < length (l ++ (w ∷ [])) → Honest (entryAt (l ++ (w ∷ [])) i)
+pub honest-snoc : (l : List Sent) (w : Sent) → ((i : ℕ) → i < length l → Honest (sentAt l i)) → Honest w
+    → (i : ℕ) → i < length (l ++ (w ∷ [])) → Honest (sentAt (l ++ (w ∷ [])) i)
 honest-snoc l w f h i k =
     elim (decLt i (length l)) [
       | yes g ↦ subst Honest (sym (entry-old l w i g)) (f i g)
       | no g ↦ let e : i ≡ length l = omega (arith, longer l w) in subst Honest
-          (sym (ap (entryAt (l ++ (w ∷ []))) e ∙ entry-new l w)) h
+          (sym (ap (sentAt (l ++ (w ∷ []))) e ∙ entry-new l w)) h
     ]
 
 -- ---- equal fields
@@ -118,20 +118,20 @@ fields-eq f g h =
     }
 
 -- ---- the last place of a frame that was written
-pub record FoundAt (f : Fields) (body : List ℕ) (l : List Entry) (k : ℕ) : Type 0 where
+pub record FoundAt (f : Fields) (body : List ℕ) (l : List Sent) (k : ℕ) : Type 0 where
   pub there : k < length l
-  pub fields : entryAt l k .fields ≡ f
-  pub bodies : entryAt l k .body ≡ body
+  pub fields : sentAt l k .fields ≡ f
+  pub bodies : sentAt l k .body ≡ body
 
 -- what is found in the rest of a log, from place n on, stands there, or is what was found before
-pub data Found (f : Fields) (body : List ℕ) (l : List Entry) (n found last : ℕ) : Type 0 where
+pub data Found (f : Fields) (body : List ℕ) (l : List Sent) (n found last : ℕ) : Type 0 where
   before : last ≡ found → Found f body l n found last
   here : (k : ℕ) → last ≡ suc (n + k) → FoundAt f body l k → Found f body l n found last
 
-further : (f : Fields) (body : List ℕ) (w : Entry) (l : List Entry) (n found last : ℕ) (b : Bool)
+further : (f : Fields) (body : List ℕ) (w : Sent) (l : List Sent) (n found last : ℕ) (b : Bool)
     → (sameFields f (w .fields) && same body (w .body)) ≡ b → Found f body l (suc n) (cond b (suc n) found) last
     → Found f body (w ∷ l) n found last
-unfolding entryAt
+unfolding sentAt
 further f body w l n found last b h (here k e p) = here (suc k) (omega arith)
     (record { there = le-suc (p .there); fields = p .fields; bodies = p .bodies })
   where
@@ -145,7 +145,7 @@ further f body w l n found last true h (before e) =
     })
 further f body w l n found last false h (before e) = before e
 
-found-from : (f : Fields) (body : List ℕ) (l : List Entry) (n found : ℕ)
+found-from : (f : Fields) (body : List ℕ) (l : List Sent) (n found : ℕ)
     → Found f body l n found (lastFrom n f body l found)
 unfolding lastFrom
 found-from f body [] n found = before refl
@@ -153,7 +153,7 @@ found-from f body (w ∷ l) n found =
     further f body w l n found _ (sameFields f (w .fields) && same body (w .body)) refl
     (found-from f body l (suc n) (cond (sameFields f (w .fields) && same body (w .body)) (suc n) found))
 
-pub found-at : (f : Fields) (body : List ℕ) (l : List Entry) (k : ℕ) → lastOf f body l ≡ suc k → FoundAt f body l k
+pub found-at : (f : Fields) (body : List ℕ) (l : List Sent) (k : ℕ) → lastOf f body l ≡ suc k → FoundAt f body l k
 unfolding lastOf
 found-at f body l k e = go (found-from f body l 0 0)
   where
@@ -162,16 +162,16 @@ found-at f body l k e = go (found-from f body l 0 0)
     go (here j z p) = let q : j ≡ k = omega arith in subst (FoundAt f body l) q p
 
 -- ---- the mark of a frame that was found
-module _ (f : Fields) (body : List ℕ) (l : List Entry) (k : ℕ) (g : FoundAt f body l k) where
+module _ (f : Fields) (body : List ℕ) (l : List Sent) (k : ℕ) (g : FoundAt f body l k) where
   pub in-log : k < size (marks l)
   in-log = let z = g .there in let y = size-marks l in omega arith
 
   pub the-mark : at (marks l) k ≡ mark (whoOf f) (codeOf (f .command)) (f .timestamp) (f .baseline)
-      (entryAt l k .moment) body
+      (sentAt l k .moment) body
   the-mark =
       at-marks l k (g .there)
       ∙ (λ i. mark (whoOf (g .fields i)) (codeOf (g .fields i .command)) (g .fields i .timestamp)
-      (g .fields i .baseline) (entryAt l k .moment) (g .bodies i))
+      (g .fields i .baseline) (sentAt l k .moment) (g .bodies i))
 
   pub marked-code : at (marks l) k .code ≡ codeOf (f .command)
   marked-code = ap (λ (y : Mark). y .code) the-mark

@@ -31,7 +31,7 @@ use Rattle.steps.proofs.Dispatch.{cond-true, cond-false, deliver-echo, deliver-
 use Rattle.steps.proofs.Dones.{send-cases}
 use Rattle.steps.proofs.Keeps.{bcase}
 use Rattle.steps.specs.Steps.{Act, start, stop, restart, setNotReady, Call, act, send, deliver, show, actOf, stepOf}
-use Rattle.link.specs.Runs.{Entry, logged, lastOf, mayDeliver, tookBy}
+use Rattle.link.specs.Runs.{Sent, logged, lastOf, mayDeliver, tookBy}
 use Rattle.link.proofs.Entries.{FoundAt, found-at}
 
 -- ---- a stop is done or dropped
@@ -55,7 +55,7 @@ refresh-cases P e t stamp body p q r = go (firstOf (refreshFaults e t stamp (len
     go (Dropped x) h = rw h (q x)
     go (Ended x) h = rw h (r x)
 
-module _ (slave : Bool) (m t : ℕ) (l : List Entry) (e : Endpoint) (took : ℕ) (K : List Entry → Endpoint → ℕ → Type 0)
+module _ (slave : Bool) (m t : ℕ) (l : List Sent) (e : Endpoint) (took : ℕ) (K : List Sent → Endpoint → ℕ → Type 0)
     (base : K l e took) (ended : K l (endedOf e) took)
     (started : e .settings .slave ≡ false → K l (startedOf e t) took)
     (restarted : K l (restartedOf e) took)
@@ -67,7 +67,7 @@ module _ (slave : Bool) (m t : ℕ) (l : List Entry) (e : Endpoint) (took : ℕ)
   -- nothing is written
   silent : (call : Call) (a : Answer) (x : Endpoint) → K l x took → Keeps call (outcome a x nothing)
   unfolding Keeps
-  silent call a x k = subst (λ (y : List Entry). K y x took) (sym (append-nil l)) k
+  silent call a x k = subst (λ (y : List Sent). K y x took) (sym (append-nil l)) k
 
   -- what any call keeps, and what was taken never falls
   unfoldable pub Kept : Call → Outcome → Type 0
@@ -122,7 +122,7 @@ module _ (slave : Bool) (m t : ℕ) (l : List Entry) (e : Endpoint) (took : ℕ)
         let y : cond (is (f .command) K′.Refresh) (lastOf f body l) took ≡ suc k = cond-true
         (is (f .command) K′.Refresh) (lastOf f body l) took r ∙ q in (
           subst (λ (n : ℕ). K (l ++ []) (refreshedOf e t (f .timestamp) (paddedOf body)) n) (sym y)
-              (subst (λ (x : List Entry). K x (refreshedOf e t (f .timestamp) (paddedOf body)) (suc k))
+              (subst (λ (x : List Sent). K x (refreshedOf e t (f .timestamp) (paddedOf body)) (suc k))
               (sym (append-nil l)) (z .0)),
           omega arith,
         ))

@@ -1,6 +1,6 @@
 -- The theorem's premises can be met: a line starts, its station at times not ready, refreshes both ways, and shows
 -- both values. All of it is computed.
-use mathlib.Core.Path.{_≡_, refl}
+use mathlib.Core.Path.{_≡_, refl, ap}
 use mathlib.Core.Bool.{Bool, true, false}
 use mathlib.Core.List.{List, [], _∷_, _++_}
 use Prim.Native.Nat.{ℕ, _+_}
@@ -10,7 +10,7 @@ use Rattle.frame.specs.declared.Command.the-variants as K
 use Rattle.endpoint.specs.declared.Settings.{Settings}
 use Rattle.steps.specs.Frames.{sentFields, ackFields, setupData}
 use Rattle.steps.specs.Steps.{start, setNotReady, Call, act, send, deliver, show}
-use Rattle.link.specs.Runs.{Clocks, Event, sameFields, lastFrom, lastOf, shown, Link}
+use Rattle.link.specs.Runs.{Clocks, Event, sameFields, lastFrom, lastOf, Show, shown, Link}
 use Rattle.link.specs.Fresh.{Paired, runOf}
 
 settings : Bool → Settings
@@ -82,11 +82,20 @@ paired = record {
   ticksS = record { interval = lit≤ tt; roundtrip = lit≤ tt; age = lit≤ tt };
 }
 
-allowed : run .allowed ≡ true
-unfolding run line postponed exchange answered clocks at-master at-slave settings setupData sameFields lastFrom lastOf
-allowed = refl
+values : List Show
+values = shown true 5070 (1 ∷ 2 ∷ 3 ∷ 4 ∷ []) 17 17 ∷ shown false 5080 (5 ∷ 6 ∷ 7 ∷ 8 ∷ []) 18 18 ∷ []
 
-shows : run .shows ≡
-    (shown true 5070 (1 ∷ 2 ∷ 3 ∷ 4 ∷ []) 17 17 ∷ shown false 5080 (5 ∷ 6 ∷ 7 ∷ 8 ∷ []) 18 18 ∷ [])
-unfolding run line postponed exchange answered clocks at-master at-slave settings setupData sameFields lastFrom lastOf
-shows = refl
+-- both facts at once, so that the run is computed once
+abbrev told : Link → Bool × List Show
+told l = (l .allowed, l .shows)
+
+computed : told run ≡ (true, values)
+unfolding run line postponed exchange answered clocks at-master at-slave settings values setupData sameFields lastFrom
+    lastOf
+computed = refl
+
+allowed : run .allowed ≡ true
+allowed = ap (λ (x : Bool × List Show). x .0) computed
+
+shows : run .shows ≡ values
+shows = ap (λ (x : Bool × List Show). x .1) computed

@@ -24,7 +24,7 @@ use Rattle.endpoint.specs.Time.{lastReading, span, half, masterTime, isAbove, i
 use Rattle.endpoint.specs.Time.{isExpired, timeOf}
 use Rattle.steps.specs.Frames.{showWidth}
 use Rattle.steps.specs.Deliveries.{paddedOf}
-use Rattle.link.specs.Runs.{Clocks, Entry, entryAt}
+use Rattle.link.specs.Runs.{Clocks, Sent, sentAt}
 use Rattle.link.specs.Fresh.{Paired}
 use Rattle.link.proofs.Ages.{Young}
 use Rattle.link.proofs.Marks.{Mark, mark}
@@ -57,11 +57,11 @@ small-of c sm ss p = record {
 abbrev pub whoOf : Fields → ℕ
 whoOf f = cond (f .application) (cond (is (f .command) K.Refresh) 2 1) 0
 
-abbrev pub markOf : Entry → Mark
+abbrev pub markOf : Sent → Mark
 markOf w = mark (whoOf (w .fields)) (codeOf (w .fields .command)) (w .fields .timestamp) (w .fields .baseline)
     (w .moment) (w .body)
 
-unfoldable pub marks : List Entry → List Mark
+unfoldable pub marks : List Sent → List Mark
 marks l = map markOf l
 
 -- one above a remembered timestamp
@@ -119,12 +119,12 @@ pub record RelS (e : Endpoint) (took : ℕ) (s : Slave) : Type 0 where
 
 -- ---- both, and the log
 -- an entry's frame tells its writer; an S-Refresh that a send was lent its body; and Busy stands where it may
-pub record Honest (w : Entry) : Type 0 where
+pub record Honest (w : Sent) : Type 0 where
   pub writer : w .fields .application ≡ w .slave
   pub value : is (w .fields .command) K.Refresh ≡ true → w .lent ≡ some (w .body)
   pub busy : w .fields .busy ≡ true → mayBeBusy (w .fields .command) ≡ true
 
-pub record Linked (c : Clocks) (sm ss : Settings) (now : ℕ) (l : List Entry) (em es : Endpoint) (tm ts : ℕ) : Type 0
+pub record Linked (c : Clocks) (sm ss : Settings) (now : ℕ) (l : List Sent) (em es : Endpoint) (tm ts : ℕ) : Type 0
   where
     pub master : Master
     pub slave : Slave
@@ -132,7 +132,7 @@ pub record Linked (c : Clocks) (sm ss : Settings) (now : ℕ) (l : List Entry) (
     pub setS : es .settings ≡ ss
     pub relM : RelM em tm master
     pub relS : RelS es ts slave
-    pub honest : (i : ℕ) → i < length l → Honest (entryAt l i)
+    pub honest : (i : ℕ) → i < length l → Honest (sentAt l i)
     pub inv : Inv (termsOf c sm ss) now (marks l) master slave
 
 -- ---- timers that have not expired, and times

@@ -14,29 +14,29 @@ use Rattle.frame.specs.declared.Command.the-variants as K
 use Rattle.frame.specs.declared.Fields.{Fields}
 use Rattle.frame.specs.Control.{is, codeOf}
 use Rattle.endpoint.specs.declared.Settings.{Settings}
-use Rattle.link.specs.Runs.{Entry, noEntry, entryAt, Show, noShow, showAt}
+use Rattle.link.specs.Runs.{Sent, noSent, sentAt, Show, noShow, showAt}
 use Rattle.link.specs.Fresh.{boundOf, ItsSend}
 use Rattle.link.proofs.Marks.{Mark, at}
 use Rattle.link.proofs.Relation.{whoOf, marks, Honest}
 use Rattle.link.proofs.Entries.{size-marks, at-marks}
 use Rattle.link.proofs.Shown.{ShownAt}
 
-pub record Sent (sm ss : Settings) (log : List Entry) (x : Show) : Type 0 where
+pub record HasSend (sm ss : Settings) (log : List Sent) (x : Show) : Type 0 where
   pub place : ℕ
   pub sent : x .sent ≡ suc place
   pub early : place < x .written
   pub known : x .written ≤ length log
-  pub fits : ItsSend (boundOf (cond (x .slave) ss sm)) x (entryAt log place)
+  pub fits : ItsSend (boundOf (cond (x .slave) ss sm)) x (sentAt log place)
 
-pub record ShowsInv (sm ss : Settings) (log : List Entry) (tm ts : ℕ) (shows : List Show) : Type 0 where
-  pub its : (i : ℕ) → i < length shows → Sent sm ss log (showAt shows i)
+pub record ShowsInv (sm ss : Settings) (log : List Sent) (tm ts : ℕ) (shows : List Show) : Type 0 where
+  pub its : (i : ℕ) → i < length shows → HasSend sm ss log (showAt shows i)
   pub below : (i : ℕ) → i < length shows → showAt shows i .sent ≤ cond (showAt shows i .slave) ts tm
   pub order : (i j : ℕ) → i < j → j < length shows → showAt shows i .slave ≡ showAt shows j .slave
       → showAt shows i .sent ≤ showAt shows j .sent
 
-entry-kept : (log ext : List Entry) (i : ℕ) → i < length log → entryAt (log ++ ext) i ≡ entryAt log i
-unfolding entryAt
-entry-kept log ext i h = List·getD-append log ext noEntry i h
+entry-kept : (log ext : List Sent) (i : ℕ) → i < length log → sentAt (log ++ ext) i ≡ sentAt log i
+unfolding sentAt
+entry-kept log ext i h = List·getD-append log ext noSent i h
 
 cond-le : (b : Bool) (ts ts′ tm tm′ : ℕ) → ts ≤ ts′ → tm ≤ tm′ → cond b ts tm ≤ cond b ts′ tm′
 cond-le true ts ts′ tm tm′ h k = h
@@ -44,7 +44,7 @@ cond-le false ts ts′ tm tm′ h k = k
 
 module _ (sm ss : Settings) where
   -- the log grows, and what was taken rises
-  pub grow : (log ext : List Entry) (tm ts tm′ ts′ : ℕ) (shows : List Show) → tm ≤ tm′ → ts ≤ ts′
+  pub grow : (log ext : List Sent) (tm ts tm′ ts′ : ℕ) (shows : List Show) → tm ≤ tm′ → ts ≤ ts′
       → ShowsInv sm ss log tm ts shows → ShowsInv sm ss (log ++ ext) tm′ ts′ shows
   grow log ext tm ts tm′ ts′ shows h k v = record {
     its = λ i j.
@@ -65,7 +65,7 @@ module _ (sm ss : Settings) where
   }
 
   -- ---- one show more
-  module _ (log : List Entry) (tm ts : ℕ) (shows : List Show) (x : Show) where
+  module _ (log : List Sent) (tm ts : ℕ) (shows : List Show) (x : Show) where
     longer : length (shows ++ (x ∷ [])) ≡ suc (length shows)
     longer = length-append shows (x ∷ []) ∙ add-one (length shows)
 
@@ -87,10 +87,10 @@ module _ (sm ss : Settings) where
               (sym (ap (showAt (shows ++ (x ∷ []))) e ∙ show-new)) p
         ]
 
-    pub add : Sent sm ss log x → x .sent ≡ cond (x .slave) ts tm → ShowsInv sm ss log tm ts shows
+    pub add : HasSend sm ss log x → x .sent ≡ cond (x .slave) ts tm → ShowsInv sm ss log tm ts shows
         → ShowsInv sm ss log tm ts (shows ++ (x ∷ []))
     add s e v = record {
-      its = each-show (Sent sm ss log) (v .its) s;
+      its = each-show (HasSend sm ss log) (v .its) s;
       below = each-show (λ (y : Show). y .sent ≤ cond (y .slave) ts tm) (v .below) (omega arith);
       order = λ i j h k q. ordered i j h k q;
     }
@@ -135,19 +135,19 @@ pub writer-of : (slave : Bool) (f : Fields) → whoOf f ≡ cond slave 0 2 → f
 writer-of true f h = kind-slave (f .application) (is (f .command) K.Refresh) h
 writer-of false f h = kind-master (f .application) (is (f .command) K.Refresh) h
 
-pub sent-by : (sm ss : Settings) (log : List Entry) (slave : Bool) (took m : ℕ) (bytes : List ℕ)
-    → ((i : ℕ) → i < length log → Honest (entryAt log i))
+pub sent-by : (sm ss : Settings) (log : List Sent) (slave : Bool) (took m : ℕ) (bytes : List ℕ)
+    → ((i : ℕ) → i < length log → Honest (sentAt log i))
     → ShownAt (marks log) (cond slave 0 2) took m (boundOf (cond slave ss sm)) bytes
-    → Sent sm ss log (record { slave = slave; moment = m; bytes = bytes; sent = took; written = length log })
+    → HasSend sm ss log (record { slave = slave; moment = m; bytes = bytes; sent = took; written = length log })
 sent-by sm ss log slave took m bytes honest s =
     let k = s .place in
     let n : k < length log = let z = s .there in let y = size-marks log in omega arith in
     let q = at-marks log k n in
     let h = honest k n in
-    let w : whoOf (entryAt log k .fields) ≡ cond slave 0 2 = sym (ap (λ (y : Mark). y .who) q) ∙ s .who in
-    let r : is (entryAt log k .fields .command) K.Refresh ≡ true =
-    eq-eqb (codeOf (entryAt log k .fields .command)) 255 (sym (ap (λ (y : Mark). y .code) q) ∙ s .code) in
-    let o : at (marks log) k .moment ≡ entryAt log k .moment = ap (λ (y : Mark). y .moment) q in
+    let w : whoOf (sentAt log k .fields) ≡ cond slave 0 2 = sym (ap (λ (y : Mark). y .who) q) ∙ s .who in
+    let r : is (sentAt log k .fields .command) K.Refresh ≡ true =
+    eq-eqb (codeOf (sentAt log k .fields .command)) 255 (sym (ap (λ (y : Mark). y .code) q) ∙ s .code) in
+    let o : at (marks log) k .moment ≡ sentAt log k .moment = ap (λ (y : Mark). y .moment) q in
     let a = s .past in
     let b = s .young in
     record {
@@ -156,7 +156,7 @@ sent-by sm ss log slave took m bytes honest s =
       early = n;
       known = omega arith;
       fits = record {
-        other = sym (h .writer) ∙ writer-of slave (entryAt log k .fields) w;
+        other = sym (h .writer) ∙ writer-of slave (sentAt log k .fields) w;
         refresh = r;
         value = h .value r ∙ ap some (sym (ap (λ (y : Mark). y .body) q) ∙ s .body);
         before = omega arith;

@@ -9,7 +9,7 @@ use Rattle.frame.specs.declared.Command.the-variants as K
 use Rattle.frame.specs.Control.{is}
 use Rattle.endpoint.specs.declared.Settings.{Settings}
 use Rattle.steps.specs.Laws.{Ticks}
-use Rattle.link.specs.Runs.{Clocks, Event, Entry, entryAt, Show, showAt, Link, afterAll, begun}
+use Rattle.link.specs.Runs.{Clocks, Event, Sent, sentAt, Show, showAt, Link, afterAll, begun}
 
 -- settings as a loaded list has them, one end master and the other slave; that they name one CID is not needed
 pub record Paired (sm ss : Settings) : Type 0 where
@@ -23,7 +23,7 @@ abbrev pub boundOf : Settings → ℕ
 boundOf s = s .age + (s .interval + cond (s .slave) 0 (s .roundtrip))
 
 -- the send of a show: by the other end, an S-Refresh, lent the value shown, and not too old
-pub record ItsSend (bound : ℕ) (x : Show) (w : Entry) : Type 0 where
+pub record ItsSend (bound : ℕ) (x : Show) (w : Sent) : Type 0 where
   pub other : w .slave ≡ not (x .slave)
   pub refresh : is (w .fields .command) K.Refresh ≡ true
   pub value : w .lent ≡ some (x .bytes)
@@ -36,7 +36,7 @@ pub record Fresh (sm ss : Settings) (l : Link) : Type 0 where
       → (1 ≤ showAt (l .shows) i .sent) × (showAt (l .shows) i .sent ≤ showAt (l .shows) i .written)
       × (showAt (l .shows) i .written ≤ length (l .log))
   pub its-send : (i k : ℕ) → i < length (l .shows) → showAt (l .shows) i .sent ≡ suc k
-      → ItsSend (boundOf (cond (showAt (l .shows) i .slave) ss sm)) (showAt (l .shows) i) (entryAt (l .log) k)
+      → ItsSend (boundOf (cond (showAt (l .shows) i .slave) ss sm)) (showAt (l .shows) i) (sentAt (l .log) k)
   -- a later show at the same end never has an earlier send
   pub in-order : (i j : ℕ) → i < j → j < length (l .shows) → showAt (l .shows) i .slave ≡ showAt (l .shows) j .slave
       → showAt (l .shows) i .sent ≤ showAt (l .shows) j .sent
@@ -53,8 +53,8 @@ AgeTheorem = (sm ss : Settings) (c : Clocks) (vs : List Event) → Paired sm ss 
 -- an end has written no S-Refresh after a moment
 abbrev pub SilentSince : Bool → ℕ → Link → Type 0
 SilentSince slave last l =
-    (k : ℕ) → k < length (l .log) → entryAt (l .log) k .slave ≡ slave
-    → is (entryAt (l .log) k .fields .command) K.Refresh ≡ true → entryAt (l .log) k .moment ≤ last
+    (k : ℕ) → k < length (l .log) → sentAt (l .log) k .slave ≡ slave
+    → is (sentAt (l .log) k .fields .command) K.Refresh ≡ true → sentAt (l .log) k .moment ≤ last
 
 -- then every show at the other end that is not fail-safe comes within the bound after it
 abbrev pub Silence : Type 0

@@ -18,7 +18,7 @@ use Rattle.endpoint.specs.Time.{lastReading}
 use Rattle.transitions.specs.ByCall.{freshOf}
 use Rattle.steps.specs.Frames.{Written, nothing, frame, sentFields}
 use Rattle.steps.specs.Frames as W
-use Rattle.steps.specs.Calls.{isFailSafe, shownOf}
+use Rattle.steps.specs.Calls.{Outcome, isFailSafe, shownOf}
 use Rattle.steps.specs.Steps.{Call, act, send, deliver, show, callOf}
 
 -- ---- moments
@@ -39,7 +39,7 @@ pub record Event : Type 0 where
 
 -- ---- the frames written, oldest first
 -- by whom, when, the fields and the body, and the value lent to the call: only a send is lent one
-pub record Entry : Type 0 where
+pub record Sent : Type 0 where
   pub slave : Bool
   pub moment : ℕ
   pub fields : Fields
@@ -47,8 +47,8 @@ pub record Entry : Type 0 where
   pub lent : Option (List ℕ)
 
 -- what stands past the end of the log is of no account
-abbrev pub noEntry : Entry
-noEntry = record {
+abbrev pub noSent : Sent
+noSent = record {
   slave = false;
   moment = 0;
   fields = sentFields K.Connect false 0 0 0;
@@ -56,8 +56,8 @@ noEntry = record {
   lent = none;
 }
 
-unfoldable pub entryAt : List Entry → ℕ → Entry
-entryAt l i = getD l i noEntry
+unfoldable pub sentAt : List Sent → ℕ → Sent
+sentAt l i = getD l i noSent
 
 abbrev pub lentTo : Call → Option (List ℕ)
 lentTo (act a) = none
@@ -65,7 +65,7 @@ lentTo (send value) = some value
 lentTo (deliver f body) = none
 lentTo show = none
 
-abbrev pub logged : Bool → ℕ → Call → Written → List Entry
+abbrev pub logged : Bool → ℕ → Call → Written → List Sent
 logged slave m call nothing = []
 logged slave m call (frame f body) =
     record { slave = slave; moment = m; fields = f; body = body; lent = lentTo call } ∷ []
@@ -86,13 +86,13 @@ sameFields f g =
     && eqb (f .baseline) (g .baseline)))))))))
 
 -- one more than the last place, counted on from n; found where none is left
-unfoldable pub lastFrom : ℕ → Fields → List ℕ → List Entry → ℕ → ℕ
+unfoldable pub lastFrom : ℕ → Fields → List ℕ → List Sent → ℕ → ℕ
 lastFrom n f body [] found = found
 lastFrom n f body (w ∷ l) found =
     lastFrom (suc n) f body l (cond (sameFields f (w .fields) && same body (w .body)) (suc n) found)
 
 -- 0 where the frame was not written
-unfoldable pub lastOf : Fields → List ℕ → List Entry → ℕ
+unfoldable pub lastOf : Fields → List ℕ → List Sent → ℕ
 lastOf f body l = lastFrom 0 f body l 0
 
 -- ---- what is shown
@@ -118,7 +118,7 @@ showAt l i = getD l i noShow
 pub record Link : Type 0 where
   pub master : Endpoint
   pub slave : Endpoint
-  pub log : List Entry
+  pub log : List Sent
   pub shows : List Show
   -- one more than the place of the S-Refresh last taken at each end; 0: none
   pub masterTook : ℕ
@@ -134,14 +134,14 @@ abbrev pub tookAt : Link → Bool → ℕ
 tookAt l slave = cond slave (l .slaveTook) (l .masterTook)
 
 -- a deliver hands over a frame that was written
-abbrev pub mayDeliver : List Entry → Call → Bool
+abbrev pub mayDeliver : List Sent → Call → Bool
 mayDeliver l (act a) = true
 mayDeliver l (send value) = true
 mayDeliver l (deliver f body) = leb 1 (lastOf f body l)
 mayDeliver l show = true
 
 -- one more than the place of what a call took, an S-Refresh that was done; else what was taken before
-abbrev pub tookBy : List Entry → Call → Answer → ℕ → ℕ
+abbrev pub tookBy : List Sent → Call → Answer → ℕ → ℕ
 tookBy l (act b) a last = last
 tookBy l (send value) a last = last
 tookBy l (deliver f body) a last = cond (isDone a && is (f .command) K.Refresh) (lastOf f body l) last
@@ -154,21 +154,35 @@ shownBy slave m took n (deliver f body) e = []
 shownBy slave m took n show e =
     cond (isFailSafe e) [] (shown slave m (shownOf e) took n ∷ [])
 
--- moments never fall, and no reading is past the limit
+-- the endpoint at an end, and the place last taken there, after a call at the slave's end or the master's
+abbrev pub endpointAfter : Bool → Link → Bool → Outcome → Endpoint
+endpointAfter end l slave o = cond (Bool·beq end slave) (o .endpoint) (endpointAt l end)
+
+abbrev pub tookAfter : Bool → Link → Bool → Call → Outcome → ℕ
+tookAfter end l slave call o =
+    cond (Bool·beq end slave) (tookBy (l .log) call (o .answer) (tookAt l end)) (tookAt l end)
+
+abbrev pub neverFalls : Link → ℕ → Bool
+neverFalls l m = leb (l .latest) m
+
+-- a call at an end with its reading, and what it came to
+abbrev pub afterCall : Clocks → Link → Bool → ℕ → Call → Outcome → Link
+afterCall c l slave t call o =
+    let m = momentOf c slave t in
+    record {
+      master = endpointAfter false l slave o;
+      slave = endpointAfter true l slave o;
+      log = l .log ++ logged slave m call (o .writes);
+      shows = l .shows ++ shownBy slave m (tookAt l slave) (length (l .log)) call (o .endpoint);
+      masterTook = tookAfter false l slave call o;
+      slaveTook = tookAfter true l slave call o;
+      latest = m;
+      allowed = l .allowed && (mayDeliver (l .log) call && (neverFalls l m && leb t lastReading));
+    }
+
 abbrev pub afterEvent : Clocks → Link → Event → Link
 afterEvent c l v =
-    let o = callOf (endpointAt l (v .slave)) (v .clock) (v .call) in
-    let m = momentOf c (v .slave) (v .clock) in
-    record {
-      master = cond (v .slave) (l .master) (o .endpoint);
-      slave = cond (v .slave) (o .endpoint) (l .slave);
-      log = l .log ++ logged (v .slave) m (v .call) (o .writes);
-      shows = l .shows ++ shownBy (v .slave) m (tookAt l (v .slave)) (length (l .log)) (v .call) (o .endpoint);
-      masterTook = cond (v .slave) (l .masterTook) (tookBy (l .log) (v .call) (o .answer) (l .masterTook));
-      slaveTook = cond (v .slave) (tookBy (l .log) (v .call) (o .answer) (l .slaveTook)) (l .slaveTook);
-      latest = m;
-      allowed = l .allowed && (mayDeliver (l .log) (v .call) && (leb (l .latest) m && leb (v .clock) lastReading));
-    }
+    afterCall c l (v .slave) (v .clock) (v .call) (callOf (endpointAt l (v .slave)) (v .clock) (v .call))
 
 abbrev pub afterAll : Clocks → Link → List Event → Link
 afterAll c l [] = l
