@@ -2,6 +2,8 @@
 use mathlib.Core.Bool.{Bool, _||_, cond}
 use mathlib.Core.List.{List, [], _∷_}
 use Prim.Native.Nat.{ℕ, _-_}
+use Prim.Native.Char.{code}
+use Prim.Native.String.{String, [] as []ˢ, _∷_ as _∷ˢ_}
 use lib.Dec.{eqb, leb, ltb}
 use lib.ListN.{length, getD}
 use Rattle.words.specs.Bytes.{same}
@@ -11,35 +13,46 @@ use Rattle.text.specs.declared.Line.{Line}
 use Rattle.text.specs.declared.Line.the-variants as L
 use Rattle.text.specs.declared.parse.Name.{Name}
 use Rattle.text.specs.declared.parse.Name.the-variants.{Load, Timed, Send, Deliver, Check, Room, Unknown}
+use Rattle.text.specs.declared.parse.Verb.{Verb}
 use Rattle.text.specs.declared.parse.Pair.{Pair}
 use Rattle.text.specs.declared.parse.Pair.the-variants.{Both, Broken}
 use Rattle.text.specs.declared.number.Number.{Number}
 use Rattle.text.specs.declared.number.Number.the-variants.{Value, Invalid}
 use Rattle.text.specs.Reading.{wordIn, restOf, numberOf, isHex, isFrame, isLoad}
 
--- ---- the name that a word is, byte by byte
--- notready, ready: what a station's user sets
-unfoldable pub stationName : List ℕ → Name
-stationName w =
-    cond (same w (110 ∷ 111 ∷ 116 ∷ 114 ∷ 101 ∷ 97 ∷ 100 ∷ 121 ∷ [])) (Timed A.NotReady)
-    (cond (same w (114 ∷ 101 ∷ 97 ∷ 100 ∷ 121 ∷ [])) (Timed A.Ready) Unknown)
+-- ---- the name that a word is
+-- the bytes of an ASCII text
+unfoldable pub bytesOf : String → List ℕ
+bytesOf []ˢ = []
+bytesOf (c ∷ˢ s) = code c ∷ bytesOf s
 
--- start, stop, restart, show, and these: the calls that CLOCK and ENTRY alone follow
-unfoldable pub timedName : List ℕ → Name
-timedName w =
-    cond (same w (115 ∷ 116 ∷ 97 ∷ 114 ∷ 116 ∷ [])) (Timed A.Start)
-    (cond (same w (115 ∷ 116 ∷ 111 ∷ 112 ∷ [])) (Timed A.Stop)
-    (cond (same w (114 ∷ 101 ∷ 115 ∷ 116 ∷ 97 ∷ 114 ∷ 116 ∷ [])) (Timed A.Restart)
-    (cond (same w (115 ∷ 104 ∷ 111 ∷ 119 ∷ [])) (Timed A.Show) (stationName w))))
+-- the words that begin a call, and what each names
+unfoldable pub names : List (List ℕ × Name)
+names =
+    (bytesOf "load", Load)
+    ∷ (bytesOf "deliver", Deliver)
+    ∷ (bytesOf "check", Check)
+    ∷ (bytesOf "room", Room)
+    ∷ (bytesOf "send", Send)
+    ∷ (bytesOf "start", Timed A.Start)
+    ∷ (bytesOf "stop", Timed A.Stop)
+    ∷ (bytesOf "restart", Timed A.Restart)
+    ∷ (bytesOf "show", Timed A.Show)
+    ∷ (bytesOf "notready", Timed A.NotReady)
+    ∷ (bytesOf "ready", Timed A.Ready)
+    ∷ []
 
--- load, deliver, check, room, send, and these: any call
+-- by the first entry that the word is
+unfoldable pub nameIn : List (List ℕ × Name) → List ℕ → Name
+nameIn [] w = Unknown
+nameIn ((word, name) ∷ l) w = cond (same w word) name (nameIn l w)
+
 unfoldable pub nameOf : List ℕ → Name
-nameOf w =
-    cond (same w (108 ∷ 111 ∷ 97 ∷ 100 ∷ [])) Load
-    (cond (same w (100 ∷ 101 ∷ 108 ∷ 105 ∷ 118 ∷ 101 ∷ 114 ∷ [])) Deliver
-    (cond (same w (99 ∷ 104 ∷ 101 ∷ 99 ∷ 107 ∷ [])) Check
-    (cond (same w (114 ∷ 111 ∷ 111 ∷ 109 ∷ [])) Room
-    (cond (same w (115 ∷ 101 ∷ 110 ∷ 100 ∷ [])) Send (timedName w)))))
+nameOf w = nameIn names w
+
+-- the code has each word filled up with spaces
+abbrev pub entryOf : Verb → List ℕ × Name
+entryOf v = (wordIn (v .0), v .1)
 
 -- ---- what follows it
 -- CLOCK below 2^64 and ENTRY below 2^32

@@ -1,9 +1,9 @@
 // A line of a call list, without its newline: which call it is.
 ghost use mathlib.Core.Path.{_≡_};
-ghost use mathlib.Core.Bool.{cond};
+ghost use mathlib.Core.List.{map};
 ghost use Prim.Native.Nat.{_≤_};
 ghost use lib.ListN.{length};
-ghost use Rattle.text.specs.Calls.{stationName, timedName, nameOf, pairOf, timedOf, sendOf, deliverOf, roomOf};
+ghost use Rattle.text.specs.Calls.{entryOf, nameIn, nameOf, pairOf, timedOf, sendOf, deliverOf, roomOf};
 ghost use Rattle.text.specs.Calls.{timedIn, sendIn, deliverIn, checkIn, callOf, lineOf};
 use super::Act;
 use super::Line;
@@ -34,41 +34,45 @@ pub(crate) enum Pair {
     Broken,
 }
 
-fn named(is: bool, name: Name, rest: Name) -> Name
-    ensures { λ r. ⌜ r ≡ cond is name rest ⌝ }
-{
-    if is { name } else { rest }
-}
+// A word that begins a call, filled up with spaces, and what it names.
+struct Verb([u8; 10], Name);
 
-// The name of what a station's user sets that a word is.
-fn station_name(word: &[u8]) -> Name
-    ensures { λ r. ⌜ r ≡ stationName (now (word .entry)) ⌝ }
-{
-    let ready = named(same(word, b"ready"), Name::Timed(Act::Ready), Name::Unknown);
-    named(same(word, b"notready"), Name::Timed(Act::NotReady), ready)
-}
+type Verbs = [Verb; 11];
 
-// The name of a call that CLOCK and ENTRY alone follow that a word is.
-fn timed_name(word: &[u8]) -> Name
-    ensures { λ r. ⌜ r ≡ timedName (now (word .entry)) ⌝ }
+const VERBS: Verbs = [
+    Verb(*b"load      ", Name::Load),
+    Verb(*b"deliver   ", Name::Deliver),
+    Verb(*b"check     ", Name::Check),
+    Verb(*b"room      ", Name::Room),
+    Verb(*b"send      ", Name::Send),
+    Verb(*b"start     ", Name::Timed(Act::Start)),
+    Verb(*b"stop      ", Name::Timed(Act::Stop)),
+    Verb(*b"restart   ", Name::Timed(Act::Restart)),
+    Verb(*b"show      ", Name::Timed(Act::Show)),
+    Verb(*b"notready  ", Name::Timed(Act::NotReady)),
+    Verb(*b"ready     ", Name::Timed(Act::Ready)),
+];
+
+// The name that a table has for a word: by the first entry that the word is.
+fn name_in(verbs: Verbs, word: &[u8]) -> Name
+    ensures { λ r. ⌜ r ≡ nameIn (map entryOf verbs) (now (word .entry)) ⌝ }
 {
-    let station = station_name(word);
-    let show = named(same(word, b"show"), Name::Timed(Act::Show), station);
-    let restart = named(same(word, b"restart"), Name::Timed(Act::Restart), show);
-    let stop = named(same(word, b"stop"), Name::Timed(Act::Stop), restart);
-    named(same(word, b"start"), Name::Timed(Act::Start), stop)
+    let mut i = 0;
+    while i < verbs.len() {
+        let verb = verbs[i];
+        if same(word, first(&verb.0)) {
+            return verb.1;
+        }
+        i += 1;
+    }
+    Name::Unknown
 }
 
 // The name that a word is.
 fn name_of(word: &[u8]) -> Name
     ensures { λ r. ⌜ r ≡ nameOf (now (word .entry)) ⌝ }
 {
-    let timed = timed_name(word);
-    let send = named(same(word, b"send"), Name::Send, timed);
-    let room = named(same(word, b"room"), Name::Room, send);
-    let check = named(same(word, b"check"), Name::Check, room);
-    let deliver = named(same(word, b"deliver"), Name::Deliver, check);
-    named(same(word, b"load"), Name::Load, deliver)
+    name_in(VERBS, word)
 }
 
 // The clock, and the entry where it is below 2^32.
