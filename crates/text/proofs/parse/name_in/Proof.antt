@@ -6,7 +6,7 @@ use Prim.Native.Nat.{ℕ, _+_, _-_, _<_}
 use native.Mathlib.Numerals.{add-one}
 use lib.ListN.{length, getD, drop, drop-of-length-le}
 use lib.Seq.{drop-cons}
-use Rattle.frame.specs.Reading.{same}
+use Rattle.words.specs.Bytes.{same}
 use Rattle.text.specs.declared.parse.Name.{Name}
 use Rattle.text.specs.declared.parse.Verb.{Verb}
 use Rattle.text.specs.Reading.{wordIn}

@@ -1,4 +1,5 @@
 -- `text::parse::name_of` meets its contract: the code's table is the definition's, computed here, once.
+use Rattle.bytes.specs.Bytes.{indexOf}
 use Rattle.text.specs.Reading.{wordIn}
 use Rattle.text.specs.Calls.{bytesOf, names, nameOf}
 use borrow.Author.Needs.{needs}
@@ -6,7 +7,7 @@ use Rattle.text.proofs.parse.name_of.Statement.{statement}
 use Rattle.text.proofs.parse.name_of.Tie as tie
 
 returns : tie.Need-returns
-unfolding nameOf names bytesOf wordIn
+unfolding nameOf names bytesOf wordIn indexOf
 returns c = c .name-in .ensures
 
 pub name-of-spec : {M : Type 1} → statement M
