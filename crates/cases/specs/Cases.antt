@@ -3,19 +3,22 @@
 use mathlib.Core.Path.{_≡_}
 use mathlib.Core.Bool.{Bool, true, false, not, cond}
 use mathlib.Core.List.{List, [], _∷_, map}
-use Prim.Native.Nat.{ℕ, _/_, _%_}
-use lib.ListN.{replicate}
+use Prim.Native.Nat.{ℕ, suc, _/_, _%_}
+use lib.ListN.{length, replicate}
 use Rattle.frame.specs.declared.Command.{Command}
 use Rattle.frame.specs.declared.Command.the-variants as K
 use Rattle.frame.specs.declared.Fields.{Fields}
+use Rattle.words.specs.Words.{wordAt, wordBytes}
 use Rattle.frame.specs.Control.{controlOf}
 use Rattle.frame.specs.Reading as Reader
-use Rattle.frame.specs.Writing.{frameBytes}
+use Rattle.frame.specs.Writing.{headBytes, withCheckWord, twice}
 use Rattle.endpoint.specs.declared.Settings.{Settings}
 use Rattle.endpoint.specs.declared.State.{State}
-use Rattle.endpoint.specs.declared.State.the-variants.{Close, EstablishPending, Establish, ParamVerify, RefreshPending}
-use Rattle.endpoint.specs.declared.State.the-variants.{Refresh, Terminate}
+use Rattle.endpoint.specs.declared.State.the-variants.{Close, Starting, EstablishPending, Establish, ParamVerify}
+use Rattle.endpoint.specs.declared.State.the-variants.{RefreshPending, Refresh, Terminate}
+use Rattle.endpoint.specs.declared.Timestamp.{Timestamp}
 use Rattle.endpoint.specs.declared.Timestamp.the-variants.{Never, At}
+use Rattle.endpoint.specs.declared.Pending.{Pending}
 use Rattle.endpoint.specs.declared.Pending.the-variants.{Nothing, Asked}
 use Rattle.endpoint.specs.declared.Endpoint.{Endpoint}
 use Rattle.endpoint.specs.Answers.{numberOf}
@@ -24,13 +27,14 @@ use Rattle.endpoint.specs.Updates.{inState, timedFrom, withTimestamps, withSetu
 use Rattle.endpoint.specs.Updates.{withNotReady}
 use Rattle.endpoint.specs.TCode.{tCodeOf, ccOf, slaveTime}
 use Rattle.transitions.specs.ByCall.{freshOf}
-use Rattle.steps.specs.Frames.{Written, nothing, frame, value, setupData, sentFields, ackFields, refreshFields}
-use Rattle.steps.specs.Frames.{replyFields}
+use Rattle.steps.specs.Frames.{Written, nothing, frame, value, bytesOf, setupData, sentFields, ackFields}
 use Rattle.steps.specs.Calls.{Outcome, startOf, restartOf, sendOf, stopOf}
 use Rattle.steps.specs.Deliveries.{deliverOf}
 use Rattle.settings.specs.Words.{settingsOf}
 use Rattle.settings.specs.Lists.{settingsAt}
 use Rattle.device.specs.declared.Device.{Device}
+use Rattle.device.specs.declared.Entry as Entries
+use Rattle.device.specs.declared.Entry.the-variants as Places
 use Rattle.device.specs.Tables.{noSettings, endpointAt, deviceOf, unloaded}
 use Rattle.device.specs.Calls.{Result, showIn, deliverIn}
 
@@ -54,78 +58,147 @@ abbrev endpointIn : Settings → State → ℕ → ℕ → ℕ → Endpoint
 endpointIn s state since measured offset =
     inState state (timedFrom since (withSetup Nothing measured offset 0 (freshOf s)))
 
-abbrev word : List ℕ
-word = 0 ∷ 0 ∷ 0 ∷ 1 ∷ []
-
 abbrev cid : ℕ
 cid = 0x01020103
 
--- an S-Connect request
-abbrev connecting : Fields
-connecting = sentFields K.Connect false cid 10 0
+-- one word, and the zero word
+abbrev word : List ℕ
+word = wordBytes 1
 
--- Readying: S-RefreshGO, sent at 1,040 with OBL 10, taken by the slave whose s2 is 6,010
-abbrev ready : Endpoint
-ready =
-    deliverOf (endpointIn slaveSettings RefreshPending 6010 6010 0) 6050
-    (sentFields K.RefreshGo false cid 1040 10) (0 ∷ 0 ∷ 0 ∷ 0 ∷ []) .endpoint
+abbrev zeroWord : List ℕ
+zeroWord = wordBytes 0
 
--- an S-Refresh with this timestamp from the other end: what it comes to, the number it gets, and the endpoint it leaves
-abbrev refreshed : Endpoint → ℕ → ℕ → Outcome
-refreshed e t stamp = deliverOf e t (sentFields K.Refresh (not (e .settings .slave)) cid stamp 0) word
+-- ---- parts as numbers, 0 for none
+abbrev stampOf : Timestamp → ℕ
+stampOf Never = 0
+stampOf (At s) = s
 
-abbrev refreshAt : Endpoint → ℕ → ℕ → ℕ
-refreshAt e t stamp = numberOf (refreshed e t stamp .answer)
+abbrev pendingOf : Pending → ℕ
+pendingOf Nothing = 0
+pendingOf (Asked s) = s
 
-abbrev afterRefresh : Endpoint → ℕ → ℕ → Endpoint
-afterRefresh e t stamp = refreshed e t stamp .endpoint
-
--- the slave in Refresh, its time in the master's clock 4,980 ticks back, one S-Refresh accepted at 6,180
-abbrev first : Endpoint
-first = afterRefresh (endpointIn slaveSettings Refresh 6150 6010 281474976705676) 6180 1195
-
--- the later one, stamp 1,200, accepted at 6,230, on a device of this connection alone
-abbrev shownFrom : Device
-shownFrom = deviceOf (At 6230) 1 (afterRefresh first 6230 1200 ∷ replicate 7 (freshOf noSettings))
+-- an entry, counted from 1
+abbrev placeOf : Entries.Entry → ℕ
+placeOf Places.Absent = 0
+placeOf (Places.At n) = suc n
 
 abbrev markOf : Result → ℕ
 markOf r = cond (r .failsafe) 1 0
 
--- a cycle without a frame on that device: its number, and the state of the connection after it
-abbrev emptyAt : ℕ → ℕ → ℕ
-emptyAt t room = numberOf (deliverIn shownFrom t room [] .answer)
-
-abbrev stateAfterEmpty : ℕ → State
-stateAfterEmpty t = endpointAt (deliverIn shownFrom t 248 [] .device .endpoints) 0 .state
-
--- CTRL of the frame that a call writes; 0 for none
+-- of what a call writes: CTRL and the timestamp
 abbrev controlIn : Written → ℕ
 controlIn nothing = 0
 controlIn (frame f body) = controlOf f
 controlIn (value bytes) = 0
 
--- what a request at 6,040 comes to at a station that is not ready, in a state since 6,000, with an s2 of 5
-abbrev asked : State → Command → List ℕ → Outcome
-asked state k body =
-    deliverOf (withNotReady true (endpointIn slaveSettings state 6000 5 0)) 6040
-    (sentFields k false cid 10 0) body
+abbrev stampIn : Written → ℕ
+stampIn nothing = 0
+stampIn (frame f body) = f .timestamp
+stampIn (value bytes) = 0
 
--- the same with the data that it compares
+-- ---- calls, each with what a row asks of it
+-- a user's call: its number; CTRL and the timestamp written; the state and the count of requests that it leaves
+abbrev calling : Outcome → List ℕ
+calling o =
+    numberOf (o .answer) ∷ controlIn (o .writes) ∷ stampIn (o .writes) ∷ rowOf (o .endpoint .state)
+    ∷ o .endpoint .setup .requests ∷ []
+
+-- the slave's S-Refresh by its bytes: CTRL, CID, T code, OBL, CC
+abbrev sentBytes : Endpoint → ℕ → List ℕ
+sentBytes e t =
+    let s = bytesOf (sendOf e t word .writes) in
+    wordAt s 0 ∷ wordAt s 4 ∷ wordAt s 8 / 65536 ∷ wordAt s 8 % 65536 ∷ wordAt s 12 ∷ []
+
+-- a request at 6,040 with timestamp 10, at a station that is ready or not, in a state since 6,000, with an s2 of 5
+abbrev asked : Bool → State → Command → List ℕ → Outcome
+asked notready state k body =
+    deliverOf (withNotReady notready (endpointIn slaveSettings state 6000 5 0)) 6040 (sentFields k false cid 10 0) body
+
+-- at one that is not ready, with the data that it compares
 abbrev askedRight : State → Command → Outcome
-askedRight state k = asked state k (setupData slaveSettings k)
+askedRight state k = asked true state k (setupData slaveSettings k)
 
--- what a Busy reply at 1,030 comes to at a master whose S-RefreshReady of 1,000 is pending, with an m2 of 5
-abbrev busyReply : Bool → List ℕ → Outcome
-busyReply error body =
+-- its number; CTRL and the timestamp of the reply; the state, the timer's start, s2 and the last timestamp accepted
+-- that it leaves
+abbrev replying : Outcome → List ℕ
+replying o =
+    numberOf (o .answer) ∷ controlIn (o .writes) ∷ stampIn (o .writes) ∷ rowOf (o .endpoint .state)
+    ∷ o .endpoint .since ∷ o .endpoint .setup .measured ∷ stampOf (o .endpoint .timestamps .accepted) ∷ []
+
+-- a reply at 1,030 at a master whose S-RefreshReady of 1,000 is pending, with an m2 of 5
+abbrev reply : Bool → Bool → List ℕ → Outcome
+reply busy error body =
     deliverOf (withPending (Asked 1000) (endpointIn masterSettings ParamVerify 1000 5 0)) 1030
-    (ackFields K.RefreshReady true error cid 1000) body
+    (ackFields K.RefreshReady busy error cid 1000) body
+
+-- its number; the state, the timer's start, m2 and the pending request that it leaves
+abbrev hearing : Outcome → List ℕ
+hearing o =
+    numberOf (o .answer) ∷ rowOf (o .endpoint .state) ∷ o .endpoint .since ∷ o .endpoint .setup .measured
+    ∷ pendingOf (o .endpoint .setup .pending) ∷ []
 
 abbrev dueAgain : Endpoint
-dueAgain = busyReply false (0 ∷ 0 ∷ 0 ∷ 0 ∷ []) .endpoint
+dueAgain = reply true false zeroWord .endpoint
 
--- the frame check of a command's reply with Busy 1
-abbrev busyForm : Command → ℕ
-busyForm k = Reader.numberOf (Reader.readingOf (frameBytes (ackFields k true false cid 10) word))
+-- Readying: S-RefreshGO, sent at 1,040 with OBL 10, taken by the slave whose s2 is 6,010
+abbrev readying : Outcome
+readying =
+    deliverOf (endpointIn slaveSettings RefreshPending 6010 6010 0) 6050 (sentFields K.RefreshGo false cid 1040 10)
+    zeroWord
+
+abbrev ready : Endpoint
+ready = readying .endpoint
+
+-- an S-Refresh of the other end with this timestamp and word
+abbrev refreshed : Endpoint → ℕ → ℕ → ℕ → Outcome
+refreshed e t stamp w =
+    deliverOf e t (sentFields K.Refresh (not (e .settings .slave)) cid stamp 0) (wordBytes w)
+
+-- its number; the state, the timer's start, the last timestamp accepted and the word held that it leaves
+abbrev taking : Outcome → List ℕ
+taking o =
+    numberOf (o .answer) ∷ rowOf (o .endpoint .state) ∷ o .endpoint .since
+    ∷ stampOf (o .endpoint .timestamps .accepted) ∷ wordAt (o .endpoint .value .bytes) 0 ∷ []
+
+-- the master in Refresh since 1,040 that is handed the timestamp 1,120
+abbrev atMaster : ℕ → Outcome
+atMaster t = refreshed (endpointIn ageless Refresh 1040 1030 0) t 1120 1
+
+-- the slave in Refresh, its time in the master's clock 4,980 ticks back: one S-Refresh at 6,180, then a later one,
+-- timestamp 1,200, with another value
+abbrev first : Outcome
+first = refreshed (endpointIn slaveSettings Refresh 6150 6010 281474976705676) 6180 1195 0x05060708
+
+abbrev later : ℕ → Outcome
+later t = refreshed (first .endpoint) t 1200 0x01020304
+
+-- the later one taken at 6,230, on a device of this connection alone
+abbrev shownFrom : Device
+shownFrom = deviceOf (At 6230) 1 (later 6230 .endpoint ∷ replicate 7 (freshOf noSettings))
+
+abbrev stateIn : Result → ℕ
+stateIn r = rowOf (endpointAt (r .device .endpoints) 0 .state)
+
+-- a show there: its number, entry, count, mark and the word shown; the state that it leaves
+abbrev showing : ℕ → ℕ → List ℕ
+showing t room =
+    let r = showIn shownFrom t room 0 in
+    let s = bytesOf (r .writes) in
+    numberOf (r .answer) ∷ placeOf (r .entry) ∷ length s ∷ markOf r ∷ wordAt s 0 ∷ stateIn r ∷ []
+
+-- a delivery of these bytes: its number, entry and count; the last reading and the state that it leaves
+abbrev delivering : Device → ℕ → ℕ → List ℕ → List ℕ
+delivering d t room s =
+    let r = deliverIn d t room s in
+    numberOf (r .answer) ∷ placeOf (r .entry) ∷ length (bytesOf (r .writes)) ∷ stampOf (r .device .last) ∷ stateIn r ∷ []
+
+-- a cycle without a frame
+abbrev emptyAt : Device → ℕ → ℕ → List ℕ
+emptyAt d t room = delivering d t room []
+
+-- the frame check of a frame with this CTRL
+abbrev formOf : ℕ → ℕ
+formOf control = Reader.numberOf (Reader.readingOf (twice (withCheckWord (headBytes control cid 0 0 word))))
 
 -- a master since 1,000 in a state, with that last timestamp sent, after so many requests; its send with one word lent
 abbrev after : ℕ → State → Endpoint
@@ -137,95 +210,106 @@ abbrev sentAfter : ℕ → State → ℕ → Outcome
 sentAfter n state t = sendOf (after n state) t word
 
 pub record Case : Type 0 where
-  pub given : ℕ
-  pub stated : ℕ
+  pub given : List ℕ
+  pub stated : List ℕ
 
+abbrev row : List ℕ → List ℕ → Case
+row g s = record { given = g; stated = s }
+
+-- one number
 abbrev case : ℕ → ℕ → Case
-case g s = record { given = g; stated = s }
+case g s = row (g ∷ []) (s ∷ [])
 
 abbrev pub cases : List Case
 cases =
     -- CID of master 1/2, slave 1/3
     case (masterSettings .connection) 0x01020103
-    -- slave S-Refresh CTRL; S-Connect reply
-    ∷ case (controlOf (refreshFields (endpointIn slaveSettings Refresh 0 0 0) 0)) 0xFF040000
-    ∷ case (controlOf (replyFields (freshOf slaveSettings) connecting false false)) 0x00840000
-    -- sending time 65,530, ts_offset 10: T code 4, CC 1
-    ∷ case (refreshFields (endpointIn slaveSettings Refresh 0 0 10) 65530 .timestamp % 65536) 4
-    ∷ case (refreshFields (endpointIn slaveSettings Refresh 0 0 10) 65530 .timestamp / 65536) 1
+    -- the slave's S-Refresh has CTRL 0xFF040000; sending time 65,530, ts_offset 10: T code 4, CC 1
+    ∷ row (sentBytes (endpointIn slaveSettings Refresh 0 0 10) 65530) (0xFF040000 ∷ 0x01020103 ∷ 4 ∷ 0 ∷ 1 ∷ [])
+    -- the S-Connect reply has CTRL 0x00840000
+    ∷ row (replying (asked false Close K.Connect word))
+    (0 ∷ 0x00840000 ∷ 10 ∷ rowOf EstablishPending ∷ 6040 ∷ 5 ∷ 10 ∷ [])
     -- ts_offset, and what the slave sending at 6,100 stamps
+    ∷ row (replying readying) (0 ∷ 0xFE840000 ∷ 1040 ∷ rowOf Refresh ∷ 6050 ∷ 6010 ∷ 1040 ∷ [])
     ∷ case (ready .setup .offset) 281474976705676
-    ∷ case (refreshFields ready 6100 .timestamp) 1120
+    ∷ row (calling (sendOf ready 6100 word)) (0 ∷ 0xFF040000 ∷ 1120 ∷ rowOf Refresh ∷ 0 ∷ [])
     -- both in the standard's words; and the highest clock and ts_offset that the code can be handed
     ∷ case (tCodeOf 65530 10) 4
     ∷ case (ccOf 65530 10) 1
     ∷ case (slaveTime 6100 281474976705676) 1120
     ∷ case (slaveTime 18446744073709551615 18446744073709551615) 281474976710654
-    -- with R = 50 the master at 1,105 counts age 0; at 1,069 number 14, at 1,070 age 0
-    ∷ case (refreshAt (endpointIn ageless Refresh 1040 1030 0) 1105 1120) 0
-    ∷ case (refreshAt (endpointIn ageless Refresh 1040 1030 0) 1069 1120) 14
-    ∷ case (refreshAt (endpointIn ageless Refresh 1040 1030 0) 1070 1120) 0
-    -- stamp 1,200 at 6,230 accepted, at 6,231 number 15
-    ∷ case (refreshAt first 6230 1200) 0
-    ∷ case (refreshAt first 6231 1200) 15
-    -- accepted at 6,230: shown at 6,330, fail-safe in a show at 6,331
-    ∷ case (markOf (showIn shownFrom 6330 248 0)) 0
-    ∷ case (markOf (showIn shownFrom 6331 248 0)) 1
+    -- with R = 50 the master at 1,105 counts age 0; at 1,069 number 14, at 1,070 age 0; age 1 would be too late for it
+    ∷ row (taking (atMaster 1105)) (0 ∷ rowOf Refresh ∷ 1105 ∷ 1120 ∷ 1 ∷ [])
+    ∷ row (taking (atMaster 1069)) (14 ∷ rowOf Refresh ∷ 1040 ∷ 0 ∷ 0 ∷ [])
+    ∷ row (taking (atMaster 1070)) (0 ∷ rowOf Refresh ∷ 1070 ∷ 1120 ∷ 1 ∷ [])
+    ∷ row (taking (atMaster 1121)) (15 ∷ rowOf Terminate ∷ 1040 ∷ 0 ∷ 0 ∷ [])
+    -- one S-Refresh accepted at 6,180; stamp 1,200 at 6,230 accepted, at 6,231 number 15
+    ∷ row (taking first) (0 ∷ rowOf Refresh ∷ 6180 ∷ 1195 ∷ 0x05060708 ∷ [])
+    ∷ row (taking (later 6230)) (0 ∷ rowOf Refresh ∷ 6230 ∷ 1200 ∷ 0x01020304 ∷ [])
+    ∷ row (taking (later 6231)) (15 ∷ rowOf Terminate ∷ 6180 ∷ 1195 ∷ 0 ∷ [])
+    -- accepted at 6,230: shown at 6,330, fail-safe in a show at 6,331; to an output one byte short, neither
+    ∷ row (showing 6330 248) (0 ∷ 1 ∷ 4 ∷ 0 ∷ 0x01020304 ∷ rowOf Refresh ∷ [])
+    ∷ row (showing 6331 248) (0 ∷ 1 ∷ 4 ∷ 1 ∷ 0 ∷ rowOf Terminate ∷ [])
+    ∷ row (showing 6330 247) (2 ∷ 0 ∷ 0 ∷ 0 ∷ 0 ∷ rowOf Refresh ∷ [])
     -- zero bytes: in time, the connection stays; late, it ends, and the number is 0 all the same
-    ∷ case (emptyAt 6330 248) 0
-    ∷ case (rowOf (stateAfterEmpty 6330)) (rowOf Refresh)
-    ∷ case (emptyAt 6331 248) 0
-    ∷ case (rowOf (stateAfterEmpty 6331)) (rowOf Terminate)
-    -- a reading before the last; an output one byte short; a device never loaded; the frame check
-    ∷ case (emptyAt 6229 248) 1
-    ∷ case (emptyAt 6331 247) 2
-    ∷ case (numberOf (deliverIn unloaded 0 248 [] .answer)) 0
+    ∷ row (emptyAt shownFrom 6330 248) (0 ∷ 0 ∷ 0 ∷ 6330 ∷ rowOf Refresh ∷ [])
+    ∷ row (emptyAt shownFrom 6331 248) (0 ∷ 0 ∷ 0 ∷ 6331 ∷ rowOf Terminate ∷ [])
+    -- a reading before the last changes nothing; an output one byte short; a device never loaded
+    ∷ row (emptyAt shownFrom 6229 248) (1 ∷ 0 ∷ 0 ∷ 6230 ∷ rowOf Refresh ∷ [])
+    ∷ row (emptyAt shownFrom 6331 247) (2 ∷ 0 ∷ 0 ∷ 6331 ∷ rowOf Terminate ∷ [])
+    ∷ row (emptyAt unloaded 5 248) (0 ∷ 0 ∷ 0 ∷ 5 ∷ rowOf Close ∷ [])
+    -- another wrong length; the frame check of zero bytes
+    ∷ row (delivering shownFrom 6330 248 (0 ∷ [])) (4 ∷ 0 ∷ 0 ∷ 6330 ∷ rowOf Refresh ∷ [])
     ∷ case (Reader.numberOf (Reader.readingOf [])) 4
-    -- a station that is not ready: Busy in replies to 0x01, 0x02 and 0xFC, and in no others
-    ∷ case (controlIn (askedRight EstablishPending K.ConfirmNetwork .writes)) 0x01C40000
-    ∷ case (controlIn (askedRight Establish K.VerifyStation .writes)) 0x02C40000
-    ∷ case (controlIn (askedRight ParamVerify K.RefreshReady .writes)) 0xFCC40000
-    ∷ case (controlIn (askedRight Close K.Connect .writes)) 0x00840000
-    ∷ case (controlIn (askedRight RefreshPending K.RefreshGo .writes)) 0xFE840000
-    -- it stays in its state, its timer runs from the reply, s2 is not fixed
-    ∷ case (rowOf (askedRight ParamVerify K.RefreshReady .endpoint .state)) (rowOf ParamVerify)
-    ∷ case (askedRight ParamVerify K.RefreshReady .endpoint .since) 6040
-    ∷ case (askedRight ParamVerify K.RefreshReady .endpoint .setup .measured) 5
+    -- a station that is not ready: Busy in replies to 0x01, 0x02 and 0xFC, and in no others; with Busy it stays in its
+    -- state, its timer runs from the reply, and s2 is not fixed
+    ∷ row (replying (askedRight EstablishPending K.ConfirmNetwork))
+    (0 ∷ 0x01C40000 ∷ 10 ∷ rowOf EstablishPending ∷ 6040 ∷ 5 ∷ 10 ∷ [])
+    ∷ row (replying (askedRight Establish K.VerifyStation))
+    (0 ∷ 0x02C40000 ∷ 10 ∷ rowOf Establish ∷ 6040 ∷ 5 ∷ 10 ∷ [])
+    ∷ row (replying (askedRight ParamVerify K.RefreshReady))
+    (0 ∷ 0xFCC40000 ∷ 10 ∷ rowOf ParamVerify ∷ 6040 ∷ 5 ∷ 10 ∷ [])
+    ∷ row (replying (askedRight Close K.Connect))
+    (0 ∷ 0x00840000 ∷ 10 ∷ rowOf EstablishPending ∷ 6040 ∷ 5 ∷ 10 ∷ [])
+    ∷ row (replying (askedRight RefreshPending K.RefreshGo))
+    (0 ∷ 0xFE840000 ∷ 10 ∷ rowOf Refresh ∷ 6040 ∷ 5 ∷ 10 ∷ [])
+    -- ready, it fixes s2
+    ∷ row (replying (asked false ParamVerify K.RefreshReady zeroWord))
+    (0 ∷ 0xFC840000 ∷ 10 ∷ rowOf RefreshPending ∷ 6040 ∷ 6040 ∷ 10 ∷ [])
     -- unequal contents: 16, with Error and without Busy
-    ∷ case (numberOf (asked ParamVerify K.RefreshReady word .answer)) 16
-    ∷ case (controlIn (asked ParamVerify K.RefreshReady word .writes)) 0xFCA40000
-    -- a master on a Busy reply: 0; its state stays, its timer starts afresh, m2 is not fixed, the same Cmd is due again
-    ∷ case (numberOf (busyReply false (0 ∷ 0 ∷ 0 ∷ 0 ∷ []) .answer)) 0
-    ∷ case (rowOf (dueAgain .state)) (rowOf ParamVerify)
-    ∷ case (dueAgain .since) 1030
-    ∷ case (dueAgain .setup .measured) 5
-    ∷ case (controlIn (sendOf dueAgain 1031 [] .writes)) 0xFC000000
+    ∷ row (replying (asked true ParamVerify K.RefreshReady word))
+    (16 ∷ 0xFCA40000 ∷ 10 ∷ rowOf Terminate ∷ 6000 ∷ 5 ∷ 10 ∷ [])
+    -- a master on a Busy reply: its state stays, its timer starts afresh, m2 is not fixed, and the same Cmd is due again
+    -- with a new timestamp; without Busy it moves on, and m2 is fixed
+    ∷ row (hearing (reply true false zeroWord)) (0 ∷ rowOf ParamVerify ∷ 1030 ∷ 5 ∷ 0 ∷ [])
+    ∷ row (calling (sendOf dueAgain 1031 [])) (0 ∷ 0xFC000000 ∷ 1031 ∷ rowOf ParamVerify ∷ 1 ∷ [])
+    ∷ row (hearing (reply false false zeroWord)) (0 ∷ rowOf RefreshPending ∷ 1030 ∷ 1030 ∷ 0 ∷ [])
     -- with Error, or with other contents: 16
-    ∷ case (numberOf (busyReply true (0 ∷ 0 ∷ 0 ∷ 0 ∷ []) .answer)) 16
-    ∷ case (numberOf (busyReply false word .answer)) 16
-    -- Busy in another reply: 7
-    ∷ case (busyForm K.VerifyStation) 0
-    ∷ case (busyForm K.Connect) 7
-    ∷ case (busyForm K.RefreshGo) 7
+    ∷ row (hearing (reply true true zeroWord)) (16 ∷ rowOf Terminate ∷ 1000 ∷ 5 ∷ 1000 ∷ [])
+    ∷ row (hearing (reply true false word)) (16 ∷ rowOf Terminate ∷ 1000 ∷ 5 ∷ 1000 ∷ [])
+    -- Busy in the replies to 0x01, 0x02 and 0xFC; in another reply, in a request, in an S-Refresh: 7
+    ∷ case (formOf 0x01C40000) 0
+    ∷ case (formOf 0x02C40000) 0
+    ∷ case (formOf 0xFCC40000) 0
+    ∷ case (formOf 0x00C40000) 7
+    ∷ case (formOf 0xFEC40000) 7
+    ∷ case (formOf 0xFC400000) 7
+    ∷ case (formOf 0xFF440000) 7
     -- request 45 is written and counted; request 46 is 19: nothing is written, and the connection ends
-    ∷ case (controlIn (sentAfter 44 EstablishPending 1010 .writes)) 0x01000000
-    ∷ case (sentAfter 44 EstablishPending 1010 .endpoint .setup .requests) 45
-    ∷ case (numberOf (sentAfter 45 EstablishPending 1010 .answer)) 19
-    ∷ case (controlIn (sentAfter 45 EstablishPending 1010 .writes)) 0
-    ∷ case (rowOf (sentAfter 45 EstablishPending 1010 .endpoint .state)) (rowOf Terminate)
+    ∷ row (calling (sentAfter 44 EstablishPending 1010)) (0 ∷ 0x01000000 ∷ 1010 ∷ rowOf EstablishPending ∷ 45 ∷ [])
+    ∷ row (calling (sentAfter 45 EstablishPending 1010)) (19 ∷ 0 ∷ 0 ∷ rowOf Terminate ∷ 45 ∷ [])
     -- 19 before 17, and after 11; a count that no call leaves
-    ∷ case (numberOf (sentAfter 44 EstablishPending 1000 .answer)) 17
-    ∷ case (numberOf (sentAfter 45 EstablishPending 1000 .answer)) 19
-    ∷ case (numberOf (sendOf (withPending (Asked 1000) (after 45 EstablishPending)) 1010 word .answer)) 11
-    ∷ case (numberOf (sentAfter 255 EstablishPending 1010 .answer)) 19
+    ∷ row (calling (sentAfter 44 EstablishPending 1000)) (17 ∷ 0 ∷ 0 ∷ rowOf EstablishPending ∷ 44 ∷ [])
+    ∷ row (calling (sentAfter 45 EstablishPending 1000)) (19 ∷ 0 ∷ 0 ∷ rowOf Terminate ∷ 45 ∷ [])
+    ∷ row (calling (sendOf (withPending (Asked 1000) (after 45 EstablishPending)) 1010 word))
+    (11 ∷ 0 ∷ 0 ∷ rowOf EstablishPending ∷ 45 ∷ [])
+    ∷ row (calling (sentAfter 255 EstablishPending 1010)) (19 ∷ 0 ∷ 0 ∷ rowOf Terminate ∷ 255 ∷ [])
     -- S-Refresh and S-Disconnect are no requests
-    ∷ case (numberOf (sentAfter 45 Refresh 1010 .answer)) 0
-    ∷ case (sentAfter 45 Refresh 1010 .endpoint .setup .requests) 45
-    ∷ case (controlIn (stopOf (after 45 EstablishPending) 1010 .writes)) 0xF9000000
-    ∷ case (stopOf (after 44 EstablishPending) 1010 .endpoint .setup .requests) 44
+    ∷ row (calling (sentAfter 45 Refresh 1010)) (0 ∷ 0xFF000000 ∷ 1010 ∷ rowOf Refresh ∷ 45 ∷ [])
+    ∷ row (calling (stopOf (after 45 EstablishPending) 1010)) (0 ∷ 0xF9000000 ∷ 1010 ∷ rowOf Terminate ∷ 45 ∷ [])
     -- a restart keeps the count, a start begins it anew
-    ∷ case (restartOf (after 45 Terminate) .endpoint .setup .requests) 45
-    ∷ case (startOf (after 45 Close) 1010 .endpoint .setup .requests) 0
+    ∷ row (calling (restartOf (after 45 Terminate))) (0 ∷ 0 ∷ 0 ∷ rowOf Close ∷ 45 ∷ [])
+    ∷ row (calling (startOf (after 45 Close) 1010)) (0 ∷ 0 ∷ 0 ∷ rowOf Starting ∷ 0 ∷ [])
     ∷ []
 
 -- each row gives what the paper states
