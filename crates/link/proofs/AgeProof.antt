@@ -2,10 +2,10 @@
 use mathlib.Core.Path.{_≡_, refl, sym, ap, subst, _∙_}
 use mathlib.Core.Bool.{Bool, true, false, not, cond, false≢true}
 use mathlib.Core.List.{List, [], _∷_, _++_, append-nil}
+use mathlib.Core.Logic.{⊎-elim}
 use Prim.Native.Nat.{ℕ, _+_, _≤_, _<_}
 use native.Mathlib.Nat.{not-suc-le-zero}
 use native.Mathlib.Omega.{arith}
-use lib.Dec.{leb}
 use lib.ListN.{length}
 use borrow.Author.Tests.{leb-true}
 use mathlib.Mathlib.Data.Bool.Basic.{and-elim-left as and-left, and-elim-right as and-right}
@@ -22,13 +22,14 @@ use Rattle.link.specs.Runs.{shownBy}
 use Rattle.link.specs.Runs.{afterEvent, afterAll, begun}
 use Rattle.link.specs.Fresh.{Paired, boundOf, ItsSend, Fresh, AgeTheorem, Silence}
 use Rattle.link.proofs.Marks.{size}
+use Rattle.link.proofs.Ages.{compared, le-or-lt}
 use Rattle.link.proofs.Invariant.{restM, restS, Inv}
 use Rattle.link.proofs.Kept.{later}
 use Rattle.link.proofs.Relation.{termsOf, small-of, marks, Honest, Linked}
 use Rattle.link.proofs.Ends.{at-master, at-slave}
 use Rattle.link.proofs.AtMaster.{shown-m}
 use Rattle.link.proofs.AtSlave.{shown-s}
-use Rattle.link.proofs.Shown.{ShownAt}
+use Rattle.link.proofs.Shown.{ShownAt, shown-within}
 use Rattle.link.proofs.Sends.{ShowsInv, grow, add, sent-by}
 
 pub record RunInv (c : Clocks) (sm ss : Settings) (l : Link) : Type 0 where
@@ -56,11 +57,11 @@ module _ (c : Clocks) (sm ss : Settings) (p : Paired sm ss) where
       → ShowsInv sm ss log tm ts (shows ++ [])
   quiet log tm ts shows v = subst (ShowsInv sm ss log tm ts) (sym (append-nil shows)) v
 
-  bound-m : sm .age + (sm .interval + sm .roundtrip) ≡ boundOf sm
-  bound-m = ap (λ (b : Bool). sm .age + (sm .interval + cond b 0 (sm .roundtrip))) (sym (p .master))
+  bound-m : sm .age + (sm .interval + sm .roundtrip) ≤ boundOf sm
+  bound-m = rw (p .master) (omega arith)
 
-  bound-s : ss .age + (ss .interval + 0) ≡ boundOf ss
-  bound-s = ap (λ (b : Bool). ss .age + (ss .interval + cond b 0 (ss .roundtrip))) (sym (p .slave))
+  bound-s : ss .age + (ss .interval + 0) ≤ boundOf ss
+  bound-s = rw (p .slave) (omega arith)
 
   -- a show at either end, whose value has its send
   shows-at : (slave : Bool) (log : List Sent) (e : Endpoint) (tm ts m t : ℕ) (shows : List Show)
@@ -108,9 +109,7 @@ module _ (c : Clocks) (sm ss : Settings) (p : Paired sm ss) where
             (callOf (l .master) t call .endpoint)) (A .1) (omega arith)
             (adds false (l .log) (l .master) (l .masterTook) (l .slaveTook) (t + c .master) t (l .shows) call
             (L .honest)
-            (λ x f. subst
-            (λ (b : ℕ). ShownAt (marks (l .log)) 2 (l .masterTook) (t + c .master) b (shownOf (l .master)))
-            bound-m (shown-m c sm ss p t lim L x f)) (v .shown));
+            (λ x f. shown-within (boundOf sm) bound-m (shown-m c sm ss p t lim L x f)) (v .shown));
       }
   step l true t call h k lim v =
       let L = linked-later (t + c .slave) k (v .linked) in
@@ -123,8 +122,7 @@ module _ (c : Clocks) (sm ss : Settings) (p : Paired sm ss) where
             (l .shows ++ shownBy true (t + c .slave) (l .slaveTook) (length (l .log)) call
             (callOf (l .slave) t call .endpoint)) (omega arith) (A .1)
             (adds true (l .log) (l .slave) (l .masterTook) (l .slaveTook) (t + c .slave) t (l .shows) call (L .honest)
-            (λ x f. subst (λ (b : ℕ). ShownAt (marks (l .log)) 0 (l .slaveTook) (t + c .slave) b (shownOf (l .slave)))
-            bound-s (shown-s c sm ss p t lim L x f)) (v .shown));
+            (λ x f. shown-within (boundOf ss) bound-s (shown-s c sm ss p t lim L x f)) (v .shown));
       }
 
   -- ---- every list: what is allowed at the end was allowed all along
@@ -139,10 +137,11 @@ module _ (c : Clocks) (sm ss : Settings) (p : Paired sm ss) where
       let m = momentOf c (v .slave) (v .clock) in
       let a = and-right (l .allowed) _ (kept-allowed (afterEvent c l v) vs h) in
       let b = and-right (mayDeliver (l .log) (v .call)) _ a in
+      let rises : l .latest ≤ m = ⊎-elim (λ p. p)
+      (λ (p : m < l .latest). absurd (false≢true (simp compared at b))) (le-or-lt (l .latest) m) in
       along (afterEvent c l v) vs h
-      (step l (v .slave) (v .clock) (v .call) (and-left (mayDeliver (l .log) (v .call)) _ a)
-      (leb-true (l .latest) m (and-left (leb (l .latest) m) _ b))
-      (leb-true (v .clock) lastReading (and-right (leb (l .latest) m) (leb (v .clock) lastReading) b)) r)
+      (step l (v .slave) (v .clock) (v .call) (and-left (mayDeliver (l .log) (v .call)) _ a) rises
+      (leb-true (v .clock) lastReading (simp compared at b)) r)
 
   -- ---- two endpoints just loaded
   nothing-yet : Inv (termsOf c sm ss) 0 (marks []) (record { nextOut = 0; nextIn = 0; held = 0; phase = restM })

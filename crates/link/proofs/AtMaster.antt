@@ -34,7 +34,7 @@ use Rattle.link.proofs.Marks.{Mark, mark, at, snoc, Has}
 use Rattle.link.proofs.Invariant.{Terms, Small, MPhase, restM, asked, got, liveM, Master, Inv, MPh, GoOf, wobble}
 use Rattle.link.proofs.Kept.{m-phase, m-got, m-writes, m-goes, m-takes, held-rises}
 use Rattle.link.proofs.Relation.{termsOf, small-of, whoOf, markOf, marks, topOf, above-top, RelM, Honest, Linked}
-use Rattle.link.proofs.Relation.{setup-timer, refresh-timer, master-time, young-of}
+use Rattle.link.proofs.Relation.{setup-timer, refresh-timer, master-time, not-late, not-ahead}
 use Rattle.link.proofs.Ages.{Young, young-more}
 use Rattle.link.proofs.Entries.{marks-snoc, honest-snoc, is-eq, FoundAt, in-log, the-mark, marked-code}
 use Rattle.link.proofs.Entries.{marked-stamp, marked-body}
@@ -371,16 +371,24 @@ module _ (c : Clocks) (sm ss : Settings) (p : Paired sm ss) {l : List Sent} {em 
       marked-who : at (marks l) k .who ≡ 2
       marked-who = ap (λ (y : Mark). y .who) (the-mark f body l k g) ∙ who-is true r
 
+      -- a master allows no more than R ahead
+      allows : allowanceOf (em .settings) ≤ em .settings .roundtrip
+      allows = rw role (omega arith)
+
       young : Young (minus (t % span) (at (marks l) k .stamp)) (sm .roundtrip) (sm .age)
       young =
           let a : ageOf em t (f .timestamp) ≡ minus (t % span) (at (marks l) k .stamp) =
           ap (λ (y : ℕ). minus y (f .timestamp)) (time ∙ omega arith)
           ∙ ap (minus (t % span)) (sym (marked-stamp f body l k g)) in
-          let w : allowanceOf (em .settings) ≡ sm .roundtrip = cond-false (em .settings .slave) 0
-          (em .settings .roundtrip) role ∙ ap (λ (y : Settings). y .roundtrip) (L .setM) in
+          let w = allows in
+          let r : em .settings .roundtrip ≡ sm .roundtrip = ap (λ (y : Settings). y .roundtrip) (L .setM) in
           let g : em .settings .age ≡ sm .age = ap (λ (y : Settings). y .age) (L .setM) in
-          young-of (ageOf em t (f .timestamp)) (allowanceOf (em .settings)) (em .settings .age) _ _ _ a w g (d .near)
-          (d .young)
+          record {
+            early = λ h. let z = not-ahead (ageOf em t (f .timestamp)) (allowanceOf (em .settings)) (d .near)
+                (omega arith) in omega arith;
+            late = λ h. let z = not-late (ageOf em t (f .timestamp)) (em .settings .age) (d .young) (omega arith) in
+                omega arith;
+          }
 
       pub rises-m : tm ≤ k
       rises-m =

@@ -20,8 +20,7 @@ use Rattle.endpoint.specs.declared.Endpoint.{Endpoint}
 use Rattle.endpoint.specs.declared.Next.{Next}
 use Rattle.endpoint.specs.Table.{isState, isNo, nextOf, stateTo}
 use Rattle.endpoint.specs.Due.{isBusy}
-use Rattle.endpoint.specs.Time.{lastReading, span, minus, isExpired, isAbove, endedOf, allowanceOf, offsetFrom}
-use Rattle.endpoint.specs.Time.{timeOf, ageOf}
+use Rattle.endpoint.specs.Time.{lastReading, span, minus, isExpired, isAbove, endedOf, offsetFrom, timeOf, ageOf}
 use Rattle.endpoint.specs.Updates.{withNotReady}
 use Rattle.transitions.specs.ByCall.{restartedOf, refreshSentOf, stoppedOf}
 use Rattle.transitions.specs.ByFrame.{refreshedOf, measuredBy, advancedOf, endedBy, deferredOf}
@@ -34,11 +33,11 @@ use Rattle.steps.proofs.Keeps.{bcase}
 use Rattle.link.specs.Runs.{Clocks, Sent}
 use Rattle.link.specs.Fresh.{Paired}
 use Rattle.link.proofs.Marks.{Mark, mark, at, snoc}
-use Rattle.link.proofs.Ages.{Young}
+use Rattle.link.proofs.Ages.{NotLate}
 use Rattle.link.proofs.Invariant.{SPhase, restS, armed, liveS, Slave, Inv, SPh, LiveS, wobble}
 use Rattle.link.proofs.Kept.{s-phase, s-hears, s-replies, s-arms, s-goes, s-sends, s-takes, held-rises}
 use Rattle.link.proofs.Relation.{termsOf, small-of, markOf, marks, topOf, above-top, RelS, Honest, Linked}
-use Rattle.link.proofs.Relation.{setup-timer, refresh-timer, slave-time, young-of}
+use Rattle.link.proofs.Relation.{setup-timer, refresh-timer, slave-time, not-late}
 use Rattle.link.proofs.Entries.{marks-snoc, honest-snoc, FoundAt, in-log, the-mark, marked-code, marked-stamp}
 use Rattle.link.proofs.Entries.{marked-body}
 use Rattle.link.proofs.Shown.{ShownAt, in-refresh, held-shown}
@@ -323,14 +322,14 @@ module _ (c : Clocks) (sm ss : Settings) (p : Paired sm ss) {l : List Sent} {em 
             (go-from (es .state) (ap (λ (y : Command). isNo (nextOf y (es .state))) (sym e) ∙ d .turn))) in
             let i = r .since in
             let R : es .settings .roundtrip ≡ ss .roundtrip = ap (λ (y : Settings). y .roundtrip) (L .setS) in
-            let off : minus (minus (at (marks l) k .stamp) (at (marks l) k .baseline)) (es .setup .measured) ≡
+            let off : offsetFrom (at (marks l) k .stamp) (at (marks l) k .baseline) (es .setup .measured) ≡
             advancedOf es t f .setup .offset =
-            (λ j. minus (minus ((marked-stamp f body l k g) j) (marked-baseline j)) (es .setup .measured))
+            (λ j. offsetFrom ((marked-stamp f body l k g) j) (marked-baseline j) (es .setup .measured))
             ∙ sym (ap (λ (y : Command). cond (is y K.RefreshGo)
             (offsetFrom (f .timestamp) (f .baseline) (es .setup .measured)) (es .setup .offset)) e) in
             replied false false plain n (advancedOf es t f)
-            (liveS (minus (minus (at (marks l) k .stamp) (at (marks l) k .baseline)) (es .setup .measured)) t
-            none) (L .setS)
+            (liveS (offsetFrom (at (marks l) k .stamp) (at (marks l) k .baseline) (es .setup .measured)) t none)
+            (L .setS)
             (record {
               nextOut = q .nextOut;
               nextIn = ap suc (sym (marked-stamp f body l k g));
@@ -384,15 +383,13 @@ module _ (c : Clocks) (sm ss : Settings) (p : Paired sm ss) {l : List Sent} {em 
     -- an S-Refresh of the master
     module _ (d : RefreshTaken es t (f .timestamp) body) (x : isExpired es t ≡ false)
         (r : is (f .command) K.Refresh ≡ true) where
-      young : Young (minus ((t + es .setup .offset) % span) (at (marks l) k .stamp)) wobble (ss .age)
+      young : NotLate (minus ((t + es .setup .offset) % span) (at (marks l) k .stamp)) (ss .age)
       young =
           let a : ageOf es t (f .timestamp) ≡ minus ((t + es .setup .offset) % span) (at (marks l) k .stamp) =
           ap (λ (y : ℕ). minus y (f .timestamp)) time
           ∙ ap (minus ((t + es .setup .offset) % span)) (sym (marked-stamp f body l k g)) in
-          let w : allowanceOf (es .settings) ≡ 0 = cond-true (es .settings .slave) 0 (es .settings .roundtrip) role in
           let h : es .settings .age ≡ ss .age = ap (λ (y : Settings). y .age) (L .setS) in
-          young-of (ageOf es t (f .timestamp)) (allowanceOf (es .settings)) (es .settings .age) _ _ _ a w h (d .near)
-          (d .young)
+          λ n. let z = not-late (ageOf es t (f .timestamp)) (es .settings .age) (d .young) (omega arith) in omega arith
 
       pub rises-s : ts ≤ k
       rises-s =

@@ -33,12 +33,13 @@ use Rattle.link.proofs.Events.{Keeps, Kept, expired, acted}
 use Rattle.link.proofs.AtMaster as M
 use Rattle.link.proofs.AtSlave as S
 
--- a frame that is not one's own has the other's Application bit
-other-bit : (a b : Bool) → Bool·beq a b ≡ false → a ≡ not b
-other-bit true true h = absurd (true≢false h)
-other-bit true false h = refl
-other-bit false true h = refl
-other-bit false false h = absurd (true≢false h)
+-- a frame that is not taken for one's own has the other's Application bit
+other-bit : (e : Endpoint) (f : Fields) → Bool·beq (f .application) (e .settings .slave) ≡ false
+    → f .application ≡ not (e .settings .slave)
+other-bit e f h =
+    bcase (f .application)
+    (λ a. bcase (e .settings .slave) (λ b. absurd (true≢false (rw (a, b) at h))) (λ b. rw (a, b)))
+    (λ a. bcase (e .settings .slave) (λ b. rw (a, b)) (λ b. absurd (true≢false (rw (a, b) at h))))
 
 module _ (c : Clocks) (sm ss : Settings) (p : Paired sm ss) {l : List Sent} {em es : Endpoint} {tm ts : ℕ} (t : ℕ)
     (lim : t ≤ lastReading) where
@@ -84,7 +85,7 @@ module _ (c : Clocks) (sm ss : Settings) (p : Paired sm ss) {l : List Sent} {em 
             subst (KeepsM (deliver f body)) (sym (d .comes))
             (silent-m (deliver f body) Done _
             (M.heard-m c sm ss p t lim L f body k g
-            (other-bit (f .application) (em .settings .slave) h ∙ ap not role) d x))
+            (other-bit em f h ∙ ap not role) d x))
         go (Dropped r) e = rw e (silent-m (deliver f body) (Dropped r) em L)
         go (Ended r) e = rw e (silent-m (deliver f body) (Ended r) (endedOf em) (M.ended-m c sm ss p t lim L))
 
@@ -104,7 +105,7 @@ module _ (c : Clocks) (sm ss : Settings) (p : Paired sm ss) {l : List Sent} {em 
         (λ q b. absurd (true≢false (sym q ∙ role)))
         (λ value d. sent-m value x d) stopped-m
         (λ f body k g q r d.
-        let o = other-bit (f .application) (em .settings .slave) q ∙ ap not role in
+        let o = other-bit em f q ∙ ap not role in
         let y = refresh-done em t (f .timestamp) body d in
         (M.refreshed-m c sm ss p t lim L f body k g o y r, M.rises-m c sm ss p t lim L f body k g o y r))
         (λ f body k g q n. other-m f body k x g q n) call h))
@@ -152,7 +153,7 @@ module _ (c : Clocks) (sm ss : Settings) (p : Paired sm ss) {l : List Sent} {em 
         (replies (firstOf (requestFaults es f body)) refl))
       where
         masters : f .application ≡ false
-        masters = other-bit (f .application) (es .settings .slave) h ∙ ap not slave-role
+        masters = other-bit es f h ∙ ap not slave-role
 
         ends : (a : Answer) → firstOf (requestFaults es f body) ≡ a → isDropped a ≡ false
             → isAbove (es .timestamps .accepted) (f .timestamp) ≡ true
@@ -194,7 +195,7 @@ module _ (c : Clocks) (sm ss : Settings) (p : Paired sm ss) {l : List Sent} {em 
         (λ q. S.told-s c sm ss p t lim L)
         (λ value d. sent-s value d) stopped-s
         (λ f body k g q r d.
-        let o = other-bit (f .application) (es .settings .slave) q ∙ ap not slave-role in
+        let o = other-bit es f q ∙ ap not slave-role in
         let y = refresh-done es t (f .timestamp) body d in
         (S.refreshed-s c sm ss p t lim L f body k g o y x r, S.rises-s c sm ss p t lim L f body k g o y x r))
         (λ f body k g q n. other-s f body k x g q n) call h))

@@ -2,12 +2,12 @@
 -- to be kept, of the log, the endpoint and the place last taken; the rest says that each of the endpoint's steps
 -- keeps it.
 use mathlib.Core.Path.{_≡_, refl, sym, ap, subst, _∙_}
-use mathlib.Core.Bool.{Bool, true, false, _&&_, not, cond, Bool·beq}
+use mathlib.Core.Bool.{Bool, true, false, _&&_, not, cond, Bool·beq, false≢true}
 use mathlib.Core.List.{List, [], _++_, append-nil}
-use Prim.Native.Nat.{ℕ, suc, _+_, _-_, _≤_}
+use Prim.Native.Nat.{ℕ, zero, suc, _+_, _≤_}
 use native.Mathlib.Omega.{arith}
 use lib.ListN.{length}
-use borrow.Author.Tests.{leb-true, not-true}
+use borrow.Author.Tests.{not-true}
 use mathlib.Mathlib.Data.Bool.Basic.{and-elim-left as and-left}
 use Rattle.frame.specs.declared.Command.the-variants as K′
 use Rattle.frame.specs.declared.Fields.{Fields}
@@ -159,6 +159,9 @@ module _ (slave : Bool) (m t : ℕ) (l : List Sent) (e : Endpoint) (took : ℕ) 
           (λ a. silent (send value) a (endedOf e) ended),
       omega arith,
     )
-    acted (deliver f body) h = delivered f body (lastOf f body l - 1)
-        (let z = leb-true 1 (lastOf f body l) h in omega arith)
+    acted (deliver f body) h = was (lastOf f body l) refl
+      where
+        was : (n : ℕ) → lastOf f body l ≡ n → Kept (deliver f body) (deliverOf e t f body)
+        was zero q = absurd (false≢true (rw q at h))
+        was (suc k) q = delivered f body k q
     acted show h = (silent show Done e base, omega arith)

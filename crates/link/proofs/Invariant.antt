@@ -8,8 +8,9 @@ use Rattle.endpoint.specs.Time.{span}
 use Rattle.link.proofs.Marks.{Mark, size, at, Each, Has, Pairs}
 use Rattle.link.proofs.Ages.{Near, Pace}
 
+-- a master's reading with R to come is still below 2^48
 abbrev pub limit : ℕ
-limit = 2 ^ 48 - 65537
+limit = 2 ^ 48 - 65536
 
 -- both clocks' distances from moments; round trip, interval, age of either end
 pub record Terms : Type 0 where

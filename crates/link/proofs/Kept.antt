@@ -6,10 +6,10 @@ use mathlib.Core.Logic.{_⊎_, ⊎-elim}
 use Prim.Native.Nat.{ℕ, zero, suc, _+_, _-_, _%_, _≤_, _<_}
 use native.Mathlib.Omega.{arith}
 use native.Mathlib.Decide.{ℕ-discrete, decLt}
-use Rattle.endpoint.specs.Time.{span, minus}
+use Rattle.endpoint.specs.Time.{span, minus, offsetFrom}
 use Rattle.link.proofs.Marks.{Mark, mark, size, at, snoc, Each, Has, still, longer, each-snoc, has-snoc, has-new}
 use Rattle.link.proofs.Marks.{pairs-snoc}
-use Rattle.link.proofs.Ages.{Young, le-or-lt, offset-near, estimate, lapse-slave, lapse-master}
+use Rattle.link.proofs.Ages.{Young, NotLate, le-or-lt, offset-near, estimate, lapse-slave, lapse-master}
 use Rattle.link.proofs.Invariant.{limit, Terms, Small, MPhase, restM, asked, got, liveM, Master, SPhase, restS}
 use Rattle.link.proofs.Invariant.{armed, liveS, Slave, GoOf, Stamped, Rising, LogInv, HeldOf, Held, ValueIs}
 use Rattle.link.proofs.Invariant.{ValueOf, GotOf, MPh, MInv, ArmedOf, Armed, Request, LiveS, At, wobble, pace}
@@ -340,8 +340,7 @@ module _ (c : Terms) (ok : Small c) where
         nextOut = s .nextOut;
         nextIn = suc (at l k .stamp);
         held = s .held;
-        phase = liveS
-            (minus (minus (at l k .stamp) (at l k .baseline)) s2) t none;
+        phase = liveS (offsetFrom (at l k .stamp) (at l k .baseline) s2) t none;
       })
   s-goes {l = l} {s = s} t μ k code s2 b e ti n h i a d g v =
       let q : Armed c l (s .nextIn) s2 = subst (SPh c l (s .nextIn) (s .held)) e (v .slave .phase) in
@@ -353,7 +352,7 @@ module _ (c : Terms) (ok : Small c) where
       let z = go-matches s2 (at l k) g v q r in
       let u = ok .tripS in
       let P = pace-hold c s2 (at l (r .place) .moment) t μ z ti in
-      s-replies μ k code b (liveS (minus (minus (at l k .stamp) (at l k .baseline)) s2) t none) n i a g
+      s-replies μ k code b (liveS (offsetFrom (at l k .stamp) (at l k .baseline) s2) t none) n i a g
       (record {
         s2 = s2;
         m2 = at l (r .place) .moment;
@@ -409,7 +408,7 @@ module _ (c : Terms) (ok : Small c) where
   pub s-takes : {now : ℕ} {l : List Mark} {m : Master} {s : Slave} (t μ o since k : ℕ) (val : Option (List ℕ))
       → s .phase ≡ liveS o since val → At c t μ → now ≡ μ → t ≤ since + c .holdS → k < size l → at l k .who ≡ 0
       → at l k .code ≡ 255 → s .nextIn ≤ at l k .stamp
-      → Young (minus ((t + o) % span) (at l k .stamp)) wobble (c .ageS) → Inv c now l m s
+      → NotLate (minus ((t + o) % span) (at l k .stamp)) (c .ageS) → Inv c now l m s
       → Inv c now l m (record
       { nextOut = s .nextOut; nextIn = suc (at l k .stamp); held = suc k; phase = liveS o t (some (at l k .body)) })
   s-takes {now} {l} {m} {s} t μ o since k val e ti n h i a d g y v =

@@ -1,13 +1,14 @@
 -- Two endpoints and their log against the invariant's master, slave and marks.
-use mathlib.Core.Path.{_≡_, refl, ap, _∙_}
-use mathlib.Core.Bool.{Bool, true, false, _&&_, _||_, not, cond, true≢false, false≢true}
+use mathlib.Core.Path.{_≡_, refl, sym, ap, _∙_}
+use mathlib.Core.Bool.{Bool, true, false, _&&_, _||_, cond, true≢false, false≢true}
+use mathlib.Core.Logic.{⊎-elim}
 use mathlib.Core.List.{List, map}
 use mathlib.Core.Option.{Option, some, none}
 use Prim.Native.Nat.{ℕ, suc, _+_, _-_, _%_, _≤_, _<_}
 use native.Mathlib.Omega.{arith}
 use lib.Dec.{ltb}
 use lib.ListN.{length}
-use borrow.Author.Tests.{ltb-true, ltb-false, le-leb, lt-leb}
+use borrow.Author.Tests.{ltb-true, ltb-false}
 use Rattle.frame.specs.declared.Command.the-variants as K
 use Rattle.frame.specs.declared.Fields.{Fields}
 use Rattle.frame.specs.Control.{is, codeOf, mayBeBusy}
@@ -20,13 +21,13 @@ use Rattle.endpoint.specs.declared.Value.{Value}
 use Rattle.endpoint.specs.declared.Endpoint.{Endpoint}
 use Rattle.endpoint.specs.Table.{isState, isSetup}
 use Rattle.endpoint.specs.Due.{requestDue}
-use Rattle.endpoint.specs.Time.{lastReading, span, half, masterTime, isAbove, isAhead, isTooFarAhead, isTooLate}
-use Rattle.endpoint.specs.Time.{isExpired, timeOf}
+use Rattle.endpoint.specs.Time.{lastReading, span, half, masterTime, isAbove, isTooFarAhead, isTooLate, isExpired}
+use Rattle.endpoint.specs.Time.{timeOf}
 use Rattle.steps.specs.Frames.{showWidth}
 use Rattle.steps.specs.Deliveries.{paddedOf}
 use Rattle.link.specs.Runs.{Clocks, Sent, sentAt}
 use Rattle.link.specs.Fresh.{Paired}
-use Rattle.link.proofs.Ages.{Young}
+use Rattle.link.proofs.Ages.{compared, le-or-lt, NotLate}
 use Rattle.link.proofs.Marks.{Mark, mark}
 use Rattle.link.proofs.Invariant.{Terms, Small, asked, got, liveM, Master, armed, liveS, Slave, Inv}
 
@@ -174,19 +175,18 @@ pub slave-time : (e : Endpoint) (t : ℕ) → e .settings .slave ≡ true → ti
 slave-time e t h = ap (λ (b : Bool). masterTime b (e .setup .offset) t) h
 
 -- ---- an age that is neither too far ahead nor too late
-late-false : (a b : Bool) → (a && b) ≡ false → a ≡ true → b ≡ false
-late-false true b h p = h
-late-false false b h p = absurd (false≢true p)
+-- what is refused: an age above the limit that is not ahead, and one that is ahead by more than the allowance
+pub late-refused : (age limit : ℕ) → age < half → limit < age → isTooLate age limit ≡ true
+late-refused age limit h k = simp compared
 
-pub young-of : (age allowance limit age′ allowance′ limit′ : ℕ) → age ≡ age′ → allowance ≡ allowance′ → limit ≡ limit′
-    → isTooFarAhead age allowance ≡ false → isTooLate age limit ≡ false → Young age′ allowance′ limit′
-young-of age allowance limit age′ allowance′ limit′ p q r far late = record {
-  early = λ h.
-      let z = ltb-false allowance (span - age)
-      (late-false (isAhead age) (ltb allowance (span - age)) far (le-leb half age (omega arith))) in
-      omega arith;
-  late = λ h.
-      let y : not (isAhead age) ≡ true = ap not (lt-leb half age (omega arith)) in
-      let z = ltb-false limit age (late-false (not (isAhead age)) (ltb limit age) late y) in
-      omega arith;
-}
+pub ahead-refused : (age allowance : ℕ) → half ≤ age → allowance < span - age → isTooFarAhead age allowance ≡ true
+ahead-refused age allowance h k = simp compared
+
+-- so an age that is taken is
+pub not-late : (age limit : ℕ) → isTooLate age limit ≡ false → NotLate age limit
+not-late age limit late h = ⊎-elim (λ p. p) (λ p. absurd (true≢false (sym (late-refused age limit h p) ∙ late)))
+    (le-or-lt age limit)
+
+pub not-ahead : (age allowance : ℕ) → isTooFarAhead age allowance ≡ false → half ≤ age → span - age ≤ allowance
+not-ahead age allowance far h = ⊎-elim (λ p. p)
+    (λ p. absurd (true≢false (sym (ahead-refused age allowance h p) ∙ far))) (le-or-lt (span - age) allowance)

@@ -31,6 +31,20 @@ pub record ShownAt (l : List Mark) (kind took m bound : ℕ) (v : List ℕ) : Ty
   pub past : at l place .moment ≤ m
   pub young : m ≤ at l place .moment + bound
 
+-- a higher bound is kept too
+pub shown-within : {l : List Mark} {kind took m bound : ℕ} {v : List ℕ} (b : ℕ) → bound ≤ b
+    → ShownAt l kind took m bound v → ShownAt l kind took m b v
+shown-within b h s = record {
+  place = s .place;
+  held = s .held;
+  there = s .there;
+  who = s .who;
+  code = s .code;
+  body = s .body;
+  past = s .past;
+  young = omega arith;
+}
+
 pub in-refresh : (e : Endpoint) → isFailSafe e ≡ false → isState (e .state) Refresh ≡ true
 in-refresh e h = and-left (isState (e .state) Refresh) (e .value .taken)
     (not-false (isState (e .state) Refresh && e .value .taken) h)
