@@ -6,7 +6,7 @@ use lib.Dec.{lit≤}
 use Rattle.frame.specs.declared.Command.{Command}
 use Rattle.words.specs.Words.{wordBytes}
 use Rattle.endpoint.specs.declared.Settings.{Settings}
-use Rattle.steps.specs.declared.frames.SetupData.{SetupData}
+use Rattle.steps.specs.declared.SetupData.{SetupData}
 use Rattle.steps.specs.Frames.{setupWords, setupData}
 use Rattle.steps.specs.Says.{DataSays}
 

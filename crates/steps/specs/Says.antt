@@ -14,7 +14,7 @@ use Rattle.endpoint.specs.declared.Answer.{Answer}
 use Rattle.endpoint.specs.declared.Answer.the-variants.{Dropped}
 use Rattle.steps.specs.declared.Stepped.{Stepped}
 use Rattle.steps.specs.declared.Shown.{Shown}
-use Rattle.steps.specs.declared.frames.SetupData.{SetupData}
+use Rattle.steps.specs.declared.SetupData.{SetupData}
 use Rattle.steps.specs.Frames.{bytesOf}
 use Rattle.steps.specs.Calls.{Outcome, dropped, isFailSafe, shownOf}
 

@@ -9,6 +9,7 @@ ghost use Rattle.steps.specs.Frames.{requestFields, refreshFields, disco
 ghost use Rattle.steps.specs.Says.{bytesIn, DataSays, WholeSays};
 ghost use Rattle.frame.specs.Writing.{isWritable};
 ghost use mathlib.Core.Bool.{true};
+use super::SetupData;
 use endpoint::Endpoint;
 use endpoint::Settings;
 use endpoint::due::request_due;
@@ -19,12 +20,6 @@ use frame::Fields;
 use frame::Subconnection;
 use frame::TIMESTAMP_MODULUS;
 use words::put_word;
-
-// The data of a setup request: the first length bytes.
-pub struct SetupData {
-    pub bytes: [u8; 16],
-    pub length: usize,
-}
 
 fn four_words(a: u32, b: u32, c: u32, d: u32) -> [u8; 16]
     ensures { λ r. ⌜ r ≡ wordBytes a ++ (wordBytes b ++ (wordBytes c ++ wordBytes d)) ⌝ }

@@ -23,3 +23,9 @@ pub struct Shown {
     pub count: usize,
     pub failsafe: bool,
 }
+
+// The data of a setup request: the first length bytes.
+pub struct SetupData {
+    pub bytes: [u8; 16],
+    pub length: usize,
+}
