@@ -1,5 +1,5 @@
 // Frames of FSCP 8/2: the fields that a frame carries, the frame check, reading and writing. Nothing above this crate
-// knows bytes.
+// knows where in the bytes a field stands.
 
 pub mod control;
 pub mod read;
