@@ -11,7 +11,7 @@ use borrow.Author.Tests.{leb-true}
 use mathlib.Mathlib.Data.Bool.Basic.{and-elim-left as and-left, and-elim-right as and-right}
 use Rattle.endpoint.specs.declared.Settings.{Settings}
 use Rattle.endpoint.specs.declared.Endpoint.{Endpoint}
-use Rattle.endpoint.specs.Time.{lastReading, isExpired}
+use Rattle.endpoint.specs.Time.{isExpired}
 use Rattle.steps.specs.Calls.{isFailSafe, shownOf}
 use Rattle.steps.proofs.Dispatch.{cond-false}
 use Rattle.steps.proofs.Keeps.{bcase}
@@ -23,7 +23,7 @@ use Rattle.link.specs.Runs.{afterEvent, afterAll, begun}
 use Rattle.link.specs.Fresh.{Paired, boundOf, ItsSend, Fresh, AgeTheorem, Silence}
 use Rattle.link.proofs.Marks.{size}
 use Rattle.link.proofs.Ages.{compared, le-or-lt}
-use Rattle.link.proofs.Invariant.{restM, restS, Inv}
+use Rattle.link.proofs.Invariant.{limit, restM, restS, Inv}
 use Rattle.link.proofs.Kept.{later}
 use Rattle.link.proofs.Relation.{termsOf, small-of, marks, Honest, Linked}
 use Rattle.link.proofs.Ends.{at-master, at-slave}
@@ -95,7 +95,7 @@ module _ (c : Clocks) (sm ss : Settings) (p : Paired sm ss) where
 
   -- ---- one event
   step : (l : Link) (slave : Bool) (t : ℕ) (call : Call) → mayDeliver (l .log) call ≡ true
-      → l .latest ≤ momentOf c slave t → t ≤ lastReading
+      → l .latest ≤ momentOf c slave t → t ≤ limit
       → RunInv c sm ss l → RunInv c sm ss (afterEvent c l (record { slave = slave; clock = t; call = call }))
   step l false t call h k lim v =
       let L = linked-later (t + c .master) k (v .linked) in
@@ -141,7 +141,7 @@ module _ (c : Clocks) (sm ss : Settings) (p : Paired sm ss) where
       (λ (p : m < l .latest). absurd (false≢true (simp compared at b))) (le-or-lt (l .latest) m) in
       along (afterEvent c l v) vs h
       (step l (v .slave) (v .clock) (v .call) (and-left (mayDeliver (l .log) (v .call)) _ a) rises
-      (leb-true (v .clock) lastReading (simp compared at b)) r)
+      (omega (arith, leb-true (v .clock) _ (simp compared at b))) r)
 
   -- ---- two endpoints just loaded
   nothing-yet : Inv (termsOf c sm ss) 0 (marks []) (record { nextOut = 0; nextIn = 0; held = 0; phase = restM })

@@ -19,7 +19,7 @@ use Rattle.endpoint.specs.declared.Pending.the-variants.{Nothing}
 use Rattle.endpoint.specs.declared.Endpoint.{Endpoint}
 use Rattle.endpoint.specs.Table.{isState, isSetup, requestOf}
 use Rattle.endpoint.specs.Due.{requestDue}
-use Rattle.endpoint.specs.Time.{lastReading, span, minus, isExpired, endedOf, allowanceOf, timeOf, ageOf}
+use Rattle.endpoint.specs.Time.{span, minus, isExpired, endedOf, allowanceOf, timeOf, ageOf}
 use Rattle.transitions.specs.ByCall.{startedOf, restartedOf, requestedOf, refreshSentOf, stoppedOf}
 use Rattle.transitions.specs.ByFrame.{refreshedOf, confirmedOf, dueAgainOf}
 use Rattle.steps.specs.Frames.{setupData, dueData, baselineOf, requestFields, refreshFields, disconnectFields}
@@ -31,7 +31,8 @@ use Rattle.steps.proofs.Keeps.{bcase}
 use Rattle.link.specs.Runs.{Clocks, Sent}
 use Rattle.link.specs.Fresh.{Paired}
 use Rattle.link.proofs.Marks.{Mark, mark, at, snoc, Has}
-use Rattle.link.proofs.Invariant.{Terms, Small, MPhase, restM, asked, got, liveM, Master, Inv, MPh, GoOf, wobble}
+use Rattle.link.proofs.Invariant.{limit, Terms, Small, MPhase, restM, asked, got, liveM, Master, Inv, MPh}
+use Rattle.link.proofs.Invariant.{GoOf, wobble}
 use Rattle.link.proofs.Kept.{m-phase, m-got, m-writes, m-goes, m-takes, held-rises}
 use Rattle.link.proofs.Relation.{termsOf, small-of, whoOf, markOf, marks, topOf, above-top, RelM, Honest, Linked}
 use Rattle.link.proofs.Relation.{setup-timer, refresh-timer, master-time, not-late, not-ahead}
@@ -43,7 +44,7 @@ use Rattle.link.proofs.Codes.{go-due, go-baseline, request-not-refresh,
 use Rattle.link.proofs.Codes.{pending-setup, busy-due}
 
 module _ (c : Clocks) (sm ss : Settings) (p : Paired sm ss) {l : List Sent} {em es : Endpoint} {tm ts : ℕ} (t : ℕ)
-    (lim : t ≤ lastReading)
+    (lim : t ≤ limit)
     (L : Linked c sm ss (t + c .master) l em es tm ts) where
   T : Terms
   T = termsOf c sm ss

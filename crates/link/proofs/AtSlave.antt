@@ -20,7 +20,7 @@ use Rattle.endpoint.specs.declared.Endpoint.{Endpoint}
 use Rattle.endpoint.specs.declared.Next.{Next}
 use Rattle.endpoint.specs.Table.{isState, isNo, nextOf, stateTo}
 use Rattle.endpoint.specs.Due.{isBusy}
-use Rattle.endpoint.specs.Time.{lastReading, span, minus, isExpired, isAbove, endedOf, offsetFrom, timeOf, ageOf}
+use Rattle.endpoint.specs.Time.{span, minus, isExpired, isAbove, endedOf, offsetFrom, timeOf, ageOf}
 use Rattle.endpoint.specs.Updates.{withNotReady}
 use Rattle.transitions.specs.ByCall.{restartedOf, refreshSentOf, stoppedOf}
 use Rattle.transitions.specs.ByFrame.{refreshedOf, measuredBy, advancedOf, endedBy, deferredOf}
@@ -34,7 +34,7 @@ use Rattle.link.specs.Runs.{Clocks, Sent}
 use Rattle.link.specs.Fresh.{Paired}
 use Rattle.link.proofs.Marks.{Mark, mark, at, snoc}
 use Rattle.link.proofs.Ages.{NotLate}
-use Rattle.link.proofs.Invariant.{SPhase, restS, armed, liveS, Slave, Inv, SPh, LiveS, wobble}
+use Rattle.link.proofs.Invariant.{limit, SPhase, restS, armed, liveS, Slave, Inv, SPh, LiveS, wobble}
 use Rattle.link.proofs.Kept.{s-phase, s-hears, s-replies, s-arms, s-goes, s-sends, s-takes, held-rises}
 use Rattle.link.proofs.Relation.{termsOf, small-of, markOf, marks, topOf, above-top, RelS, Honest, Linked}
 use Rattle.link.proofs.Relation.{setup-timer, refresh-timer, slave-time, not-late}
@@ -44,7 +44,7 @@ use Rattle.link.proofs.Shown.{ShownAt, in-refresh, held-shown}
 use Rattle.link.proofs.Codes.{refresh-not-setup, pending-setup, targetOf, leads, go-from, busy-from}
 
 module _ (c : Clocks) (sm ss : Settings) (p : Paired sm ss) {l : List Sent} {em es : Endpoint} {tm ts : ℕ} (t : ℕ)
-    (lim : t ≤ lastReading)
+    (lim : t ≤ limit)
     (L : Linked c sm ss (t + c .slave) l em es tm ts) where
   role : es .settings .slave ≡ true
   role = ap (λ (s : Settings). s .slave) (L .setS) ∙ p .slave

@@ -13,7 +13,7 @@ use Rattle.endpoint.specs.declared.Endpoint.{Endpoint}
 use Rattle.endpoint.specs.declared.Answer.{Answer}
 use Rattle.endpoint.specs.declared.Answer.the-variants.{Done, Dropped, Ended}
 use Rattle.endpoint.specs.Answers.{firstOf, isDropped}
-use Rattle.endpoint.specs.Time.{lastReading, isExpired, isAbove, endedOf}
+use Rattle.endpoint.specs.Time.{isExpired, isAbove, endedOf}
 use Rattle.transitions.specs.ByCall.{stoppedOf}
 use Rattle.transitions.specs.ByFrame.{endedBy}
 use Rattle.steps.specs.Frames.{nothing}
@@ -31,6 +31,7 @@ use Rattle.link.proofs.Relation.{Linked}
 use Rattle.link.proofs.Entries.{FoundAt}
 use Rattle.link.proofs.Events.{Keeps, Kept, expired, acted}
 use Rattle.link.proofs.AtMaster as M
+use Rattle.link.proofs.Invariant.{limit}
 use Rattle.link.proofs.AtSlave as S
 
 -- a frame that is not taken for one's own has the other's Application bit
@@ -42,7 +43,7 @@ other-bit e f h =
     (λ a. bcase (e .settings .slave) (λ b. rw (a, b)) (λ b. absurd (true≢false (rw (a, b) at h))))
 
 module _ (c : Clocks) (sm ss : Settings) (p : Paired sm ss) {l : List Sent} {em es : Endpoint} {tm ts : ℕ} (t : ℕ)
-    (lim : t ≤ lastReading) where
+    (lim : t ≤ limit) where
   -- ---- the master
   module _ (L : Linked c sm ss (t + c .master) l em es tm ts) where
     role : em .settings .slave ≡ false

@@ -21,7 +21,7 @@ use Rattle.endpoint.specs.declared.Value.{Value}
 use Rattle.endpoint.specs.declared.Endpoint.{Endpoint}
 use Rattle.endpoint.specs.Table.{isState, isSetup}
 use Rattle.endpoint.specs.Due.{requestDue}
-use Rattle.endpoint.specs.Time.{lastReading, span, half, masterTime, isAbove, isTooFarAhead, isTooLate, isExpired}
+use Rattle.endpoint.specs.Time.{span, half, masterTime, isAbove, isTooFarAhead, isTooLate, isExpired}
 use Rattle.endpoint.specs.Time.{timeOf}
 use Rattle.steps.specs.Frames.{showWidth}
 use Rattle.steps.specs.Deliveries.{paddedOf}
@@ -29,7 +29,7 @@ use Rattle.link.specs.Runs.{Clocks, Sent, sentAt}
 use Rattle.link.specs.Fresh.{Paired}
 use Rattle.link.proofs.Ages.{compared, le-or-lt, NotLate}
 use Rattle.link.proofs.Marks.{Mark, mark}
-use Rattle.link.proofs.Invariant.{Terms, Small, asked, got, liveM, Master, armed, liveS, Slave, Inv}
+use Rattle.link.proofs.Invariant.{limit, Terms, Small, asked, got, liveM, Master, armed, liveS, Slave, Inv}
 
 -- ---- what the invariant's numbers are
 abbrev pub termsOf : Clocks → Settings → Settings → Terms
@@ -165,7 +165,7 @@ module _ (e : Endpoint) (t : ℕ) (h : isExpired e t ≡ false) where
       (in-refresh (isSetup (e .state)) (isState (e .state) Refresh) r i h p) in
       omega arith
 
-pub master-time : (e : Endpoint) (t : ℕ) → e .settings .slave ≡ false → t ≤ lastReading → timeOf e t ≡ t
+pub master-time : (e : Endpoint) (t : ℕ) → e .settings .slave ≡ false → t ≤ limit → timeOf e t ≡ t
 master-time e t h k =
     let p : masterTime (e .settings .slave) (e .setup .offset) t ≡ (t + 0) % span = ap
     (λ (b : Bool). masterTime b (e .setup .offset) t) h in
