@@ -1,0 +1,2 @@
+-- Lists of which the first elements are changed, or searched.
+pub mod First
