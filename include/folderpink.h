@@ -1,7 +1,30 @@
 /*
- * Frame check of the FSCP 8/2 safety link, for the driver of the bus card.
+ * The FSCP 8/2 safety link, for C and C++ on x86-64: a gateway of 1 to 64 connections, and the
+ * frame check alone.
  *
- * Link with libframe.a. No other library and no call at start-up is needed.
+ * Link with libgateway.a (rt staticlib gateway), for folderpink_check_frame also with libframe.a
+ * (rt staticlib frame). They need memcpy, and nothing else: no call at start-up, no heap, no
+ * input or output. A call always returns and keeps nothing between calls: all that a gateway
+ * remembers is in the records and the gateway value that the caller holds. So two gateways may
+ * be called at the same time from two threads.
+ *
+ * In every call, the caller sees to it that
+ * - a pointer and the length after it are readable memory of so many elements (records, words or
+ *   bytes), writable where the pointer is not to const, that nobody else writes during the call,
+ *   nor reads where it is writable;
+ * - no two of them overlap;
+ * - records are aligned to 8 bytes and lists to 4; bytes need no alignment;
+ * - no pointer is null, also where the length is 0;
+ * - FOLDERPINK_STACK bytes of stack are left.
+ *
+ * Between the calls on a gateway, the caller sees to it that
+ * - the records are lent whole each time, and as the last call left them: nobody else writes them;
+ * - the gateway value of the last answer, refused or not, goes into the next call.
+ * What the link promises of a shown value counts on this. Reading the records between calls is
+ * free.
+ *
+ * Every call answers, whatever the lengths and contents: a length that does not suit is refused
+ * by a number.
  */
 #ifndef FOLDERPINK_H
 #define FOLDERPINK_H
@@ -17,12 +40,50 @@ extern "C" {
 #define FOLDERPINK_FRAME_MIN 56
 #define FOLDERPINK_FRAME_MAX 248
 
-/* The answers of check_frame. The first that applies, in this order, is given. */
-enum folderpink_answer {
-    /* A sound frame. Whether it is due, and for whom, is not looked at. */
-    FOLDERPINK_SOUND = 0,
+/* An output that is lent has at least the bytes of the longest frame. */
+#define FOLDERPINK_OUTPUT_MIN FOLDERPINK_FRAME_MAX
 
-    /* length: not a frame length; 0 bytes are none either. */
+/* A value has 1 to 25 words of 4 bytes. */
+#define FOLDERPINK_VALUE_MAX 100
+
+/* The most connections of a gateway, and how many words of the settings list each has. */
+#define FOLDERPINK_CONNECTIONS_MAX 64
+#define FOLDERPINK_CONNECTION_WORDS 7
+
+/* The highest clock reading, in ticks of 128 us: 2^48 - 65,537. */
+#define FOLDERPINK_CLOCK_MAX UINT64_C(281474976645119)
+
+/*
+ * The bytes of stack that a call may use, its arguments and memcpy included, but not what a
+ * dynamic linker uses where it binds memcpy at its first call. Measured, not proved: the host
+ * tests make every call of their lists on a painted stack, and hold what was overwritten to this.
+ */
+#define FOLDERPINK_STACK 3072
+
+/*
+ * The answers. Where several apply, the first in this order is given: 1; 2 for too few records;
+ * then all timers are tested (the clock step); 2 for an output that is too short; 3, or 4 to 8; 9;
+ * 10 and so on, 19 after 12. A loading knows 18 and 2 only.
+ *
+ * From 9 on, 18 apart, and with 0 (load and a delivery of 0 bytes apart) the connection is named.
+ * Loading apart, 1, and 2 for too few records, change nothing. All others leave what the clock
+ * step left, save that 15, 16 and 19 end the connection. A refusal writes nothing to the output,
+ * save that a slave's 16 writes its reply.
+ */
+enum folderpink_number {
+    /* Done; of the frame check: a sound frame. */
+    FOLDERPINK_DONE = 0,
+
+    /* clock: the reading is above FOLDERPINK_CLOCK_MAX, or below the gateway's last. */
+    FOLDERPINK_CLOCK = 1,
+
+    /* buffer: fewer records than the table has connections, or an output under 248 bytes. */
+    FOLDERPINK_BUFFER = 2,
+
+    /* entry: there is no such connection. */
+    FOLDERPINK_ENTRY = 3,
+
+    /* length: not a frame's. */
     FOLDERPINK_LENGTH = 4,
 
     /* copies: SubPDU-A and SubPDU-B differ. */
@@ -32,25 +93,255 @@ enum folderpink_answer {
     FOLDERPINK_CHECK_WORD = 6,
 
     /*
-     * form: Cmd unlisted; Ack, Error or Application not allowed with this Cmd;
-     * Busy outside a reply to S-InitConfirmNetPrm, S-InitVerifyStnPrm or
-     * S-RefreshReady; OBL not 0 outside an S-RefreshGO request; another bit of
-     * CTRL, or RSV, not 0.
+     * form: Cmd unlisted; Ack, Error or Application not allowed with this Cmd; Busy outside a
+     * reply to S-InitConfirmNetPrm, S-InitVerifyStnPrm or S-RefreshReady; OBL not 0 outside an
+     * S-RefreshGO request; another bit of CTRL, or RSV, not 0.
      */
-    FOLDERPINK_FORM = 7
+    FOLDERPINK_FORM = 7,
+
+    /* stranger: the frame's CID is none of the table. */
+    FOLDERPINK_STRANGER = 8,
+
+    /* expired: this call's clock step ended the connection, and the call is no show. */
+    FOLDERPINK_EXPIRED = 9,
+
+    /* echo: the frame is one's own. */
+    FOLDERPINK_ECHO = 10,
+
+    /* turn: not allowed in this state, nothing due, or a call of the other role. */
+    FOLDERPINK_TURN = 11,
+
+    /* width: a value or S-Data of the wrong length. */
+    FOLDERPINK_WIDTH = 12,
+
+    /* repeat: the timestamp is not above the last accepted, or a reply's not the pending one. */
+    FOLDERPINK_REPEAT = 13,
+
+    /* ahead: an S-Refresh is ahead by more than is allowed. */
+    FOLDERPINK_AHEAD = 14,
+
+    /* late: an S-Refresh is older than A; ends the connection. */
+    FOLDERPINK_LATE = 15,
+
+    /* unequal: the contents differ, or a reply has Error 1; ends the connection. */
+    FOLDERPINK_UNEQUAL = 16,
+
+    /* too soon: the timestamp to be sent is not above the last sent. */
+    FOLDERPINK_TOO_SOON = 17,
+
+    /* settings: the list is not right; the table is of no connections then. */
+    FOLDERPINK_SETTINGS = 18,
+
+    /* exhausted: a master's request would be number 46 since its start; ends the connection. */
+    FOLDERPINK_EXHAUSTED = 19
+};
+
+/* The states of a connection; above 7 is Terminate too. */
+enum folderpink_state {
+    FOLDERPINK_CLOSE = 0,
+    FOLDERPINK_STARTING = 1, /* a master's, before its first reply */
+    FOLDERPINK_ESTABLISH_PENDING = 2,
+    FOLDERPINK_ESTABLISH = 3,
+    FOLDERPINK_PARAM_VERIFY = 4,
+    FOLDERPINK_REFRESH_PENDING = 5,
+    FOLDERPINK_REFRESH = 6,
+    FOLDERPINK_TERMINATE = 7
+};
+
+/* All that a connection keeps, but for its value. A flag is 0, or set. */
+struct folderpink_stored {
+    uint64_t since;    /* the clock reading where the timer starts */
+    uint64_t sent;     /* the timestamp last sent, where hassent is set */
+    uint64_t accepted; /* the timestamp last accepted, where hasaccepted is set */
+    uint64_t asked;    /* that of a master's request that waits for its reply, if hasasked is set */
+    uint64_t measured; /* s2 at a slave, m2 at a master */
+    uint64_t offset;   /* ts_offset at a slave */
+
+    /* The settings. */
+    uint32_t connection; /* the CID */
+    uint32_t interval;   /* I, in ticks, as the next two */
+    uint32_t roundtrip;  /* R */
+    uint32_t age;        /* A */
+    uint32_t station;    /* the station word */
+    uint8_t state;       /* one of folderpink_state */
+    uint8_t slave;       /* a flag: the role; of the settings, as the next two */
+    uint8_t masterwords; /* M */
+    uint8_t slavewords;  /* S */
+
+    uint8_t hassent;
+    uint8_t hasaccepted;
+    uint8_t hasasked;
+    uint8_t requests; /* setup requests written since the last start or loading */
+    uint8_t notready; /* a flag: what set_not_ready set */
+    uint8_t taken;    /* a flag: a value was accepted in this Refresh */
 };
 
 /*
- * Checks the bytes of one received frame and gives one of the answers above.
- *
- * The caller: bytes points to length readable bytes, which nobody changes
- * during the call (a transfer into them has ended). bytes is not null, also
- * when length is 0. It needs no alignment.
- *
- * The function: takes any length and any bytes, reads only the given bytes,
- * writes nothing, keeps nothing between calls and always returns.
+ * A connection's record. Its value is the last one accepted in this Refresh, with zeros after it,
+ * or the fail-safe value, all zeros. Use folderpink_show to read it: only a call tests the timers.
+ * Bytes between the fields and after them have no meaning.
  */
-uint8_t check_frame(const uint8_t *bytes, size_t length);
+struct folderpink_record {
+    struct folderpink_stored stored;
+    uint8_t value[FOLDERPINK_VALUE_MAX];
+};
+
+/* What a gateway keeps beside the records. All zeros: never loaded, a table of no connections. */
+struct folderpink_gateway {
+    uint64_t last; /* the last accepted clock reading, 0 before the first */
+    size_t count;  /* the size of the table */
+};
+
+/* What a call is asked with. */
+struct folderpink_call {
+    struct folderpink_gateway gateway; /* of the last answer */
+    uint64_t clock;                    /* the caller's clock reading */
+    size_t entry;                      /* the connection, from 0 on; deliver does not look at it */
+    uint8_t notready;                  /* a flag, of set_not_ready alone */
+};
+
+/* What a call answers. */
+struct folderpink_called {
+    struct folderpink_gateway gateway; /* for the next call */
+    size_t count;                      /* how many bytes it wrote at the start of the output */
+    size_t entry;                      /* the connection, where named is set, else 0 */
+    uint8_t named;                     /* a flag, 0 or 1 */
+    uint8_t number;                    /* one of folderpink_number */
+    uint8_t failsafe;                  /* 1: a show without a value, its bytes are zeros; else 0 */
+};
+
+/*
+ * Loads a settings list: 7 words for each of 1 to 64 connections, the top four bits of each its
+ * kind, in this order:
+ *   0x10000000 + master address, 0x20000000 + slave address (network x 256 + station, 16 bits),
+ *   0x30000000 + role (0 master, 1 slave) x 1,024 + words from the master x 32 + words from the
+ *   slave (each 1 to 25),
+ *   0x40000000 + I, 0x50000000 + R, 0x60000000 + A (each 1 to 65,535 ticks),
+ *   0x70000000 + station word (28 bits).
+ * The two addresses differ, and no CID occurs twice.
+ *
+ * Done, the list's connections are in the first records, all in Close; the records before may
+ * have held anything, zeros for example. Refused (18, or 2 for too few records), the records stay
+ * and the table is of no connections. Records past the table stay in every call.
+ */
+struct folderpink_called folderpink_load(struct folderpink_record *records, size_t records_length,
+                                         const uint32_t *list, size_t list_length);
+
+/* A master leaves Close: its next sends write the setup requests. */
+struct folderpink_called folderpink_start(struct folderpink_record *records, size_t records_length,
+                                          struct folderpink_call call);
+
+/* From Terminate to Close. Timestamps are remembered. */
+struct folderpink_called folderpink_restart(struct folderpink_record *records,
+                                            size_t records_length, struct folderpink_call call);
+
+/* A slave's user says that the station is not ready (call.notready set), or ready again. */
+struct folderpink_called folderpink_set_not_ready(struct folderpink_record *records,
+                                                  size_t records_length,
+                                                  struct folderpink_call call);
+
+/* To Terminate, from any state but Close and Terminate; a master's writes S-Disconnect. */
+struct folderpink_called folderpink_stop(struct folderpink_record *records, size_t records_length,
+                                         struct folderpink_call call, uint8_t *out,
+                                         size_t out_length);
+
+/*
+ * Writes the last value accepted in this Refresh, 4 bytes a word; or, with none or outside
+ * Refresh, zeros of the same width and the mark failsafe.
+ */
+struct folderpink_called folderpink_show(struct folderpink_record *records, size_t records_length,
+                                         struct folderpink_call call, uint8_t *out,
+                                         size_t out_length);
+
+/*
+ * Writes the frame to be sent: in Refresh S-Refresh with the value (4 x M bytes of a master, 4 x S
+ * of a slave), before it a master's next setup request, whatever value is lent.
+ */
+struct folderpink_called folderpink_send(struct folderpink_record *records, size_t records_length,
+                                         struct folderpink_call call, const uint8_t *value,
+                                         size_t value_length, uint8_t *out, size_t out_length);
+
+/*
+ * Takes what a cycle of the bus brought: a frame, or 0 bytes for nothing, which takes the clock
+ * step alone. A slave's reply is written to the output, to be sent.
+ */
+struct folderpink_called folderpink_deliver(struct folderpink_record *records,
+                                            size_t records_length, struct folderpink_call call,
+                                            const uint8_t *bytes, size_t bytes_length, uint8_t *out,
+                                            size_t out_length);
+
+/*
+ * The frame check alone: 0 for a sound frame, or 4 to 7. Whether the frame is due, and for whom,
+ * is not looked at. 0 bytes are no frame (4).
+ */
+uint8_t folderpink_check_frame(const uint8_t *bytes, size_t length);
+
+/*
+ * The layout that the library was proved with: crates/gateway/proofs/InMemory.antt has each number
+ * below, as the memory model of the proofs gives it.
+ */
+#ifdef __cplusplus
+#define FOLDERPINK_LAYOUT(fact) static_assert(fact, #fact)
+#define FOLDERPINK_ALIGN alignof
+#else
+#define FOLDERPINK_LAYOUT(fact) _Static_assert(fact, #fact)
+#define FOLDERPINK_ALIGN _Alignof
+#endif
+
+FOLDERPINK_LAYOUT(sizeof(size_t) == 8);
+
+FOLDERPINK_LAYOUT(sizeof(struct folderpink_stored) == 80);
+FOLDERPINK_LAYOUT(FOLDERPINK_ALIGN(struct folderpink_stored) == 8);
+FOLDERPINK_LAYOUT(offsetof(struct folderpink_stored, since) == 0);
+FOLDERPINK_LAYOUT(offsetof(struct folderpink_stored, sent) == 8);
+FOLDERPINK_LAYOUT(offsetof(struct folderpink_stored, accepted) == 16);
+FOLDERPINK_LAYOUT(offsetof(struct folderpink_stored, asked) == 24);
+FOLDERPINK_LAYOUT(offsetof(struct folderpink_stored, measured) == 32);
+FOLDERPINK_LAYOUT(offsetof(struct folderpink_stored, offset) == 40);
+FOLDERPINK_LAYOUT(offsetof(struct folderpink_stored, connection) == 48);
+FOLDERPINK_LAYOUT(offsetof(struct folderpink_stored, interval) == 52);
+FOLDERPINK_LAYOUT(offsetof(struct folderpink_stored, roundtrip) == 56);
+FOLDERPINK_LAYOUT(offsetof(struct folderpink_stored, age) == 60);
+FOLDERPINK_LAYOUT(offsetof(struct folderpink_stored, station) == 64);
+FOLDERPINK_LAYOUT(offsetof(struct folderpink_stored, state) == 68);
+FOLDERPINK_LAYOUT(offsetof(struct folderpink_stored, slave) == 69);
+FOLDERPINK_LAYOUT(offsetof(struct folderpink_stored, masterwords) == 70);
+FOLDERPINK_LAYOUT(offsetof(struct folderpink_stored, slavewords) == 71);
+FOLDERPINK_LAYOUT(offsetof(struct folderpink_stored, hassent) == 72);
+FOLDERPINK_LAYOUT(offsetof(struct folderpink_stored, hasaccepted) == 73);
+FOLDERPINK_LAYOUT(offsetof(struct folderpink_stored, hasasked) == 74);
+FOLDERPINK_LAYOUT(offsetof(struct folderpink_stored, requests) == 75);
+FOLDERPINK_LAYOUT(offsetof(struct folderpink_stored, notready) == 76);
+FOLDERPINK_LAYOUT(offsetof(struct folderpink_stored, taken) == 77);
+
+FOLDERPINK_LAYOUT(sizeof(struct folderpink_record) == 184);
+FOLDERPINK_LAYOUT(FOLDERPINK_ALIGN(struct folderpink_record) == 8);
+FOLDERPINK_LAYOUT(offsetof(struct folderpink_record, stored) == 0);
+FOLDERPINK_LAYOUT(offsetof(struct folderpink_record, value) == 80);
+
+FOLDERPINK_LAYOUT(sizeof(struct folderpink_gateway) == 16);
+FOLDERPINK_LAYOUT(FOLDERPINK_ALIGN(struct folderpink_gateway) == 8);
+FOLDERPINK_LAYOUT(offsetof(struct folderpink_gateway, last) == 0);
+FOLDERPINK_LAYOUT(offsetof(struct folderpink_gateway, count) == 8);
+
+FOLDERPINK_LAYOUT(sizeof(struct folderpink_call) == 40);
+FOLDERPINK_LAYOUT(FOLDERPINK_ALIGN(struct folderpink_call) == 8);
+FOLDERPINK_LAYOUT(offsetof(struct folderpink_call, gateway) == 0);
+FOLDERPINK_LAYOUT(offsetof(struct folderpink_call, clock) == 16);
+FOLDERPINK_LAYOUT(offsetof(struct folderpink_call, entry) == 24);
+FOLDERPINK_LAYOUT(offsetof(struct folderpink_call, notready) == 32);
+
+FOLDERPINK_LAYOUT(sizeof(struct folderpink_called) == 40);
+FOLDERPINK_LAYOUT(FOLDERPINK_ALIGN(struct folderpink_called) == 8);
+FOLDERPINK_LAYOUT(offsetof(struct folderpink_called, gateway) == 0);
+FOLDERPINK_LAYOUT(offsetof(struct folderpink_called, count) == 16);
+FOLDERPINK_LAYOUT(offsetof(struct folderpink_called, entry) == 24);
+FOLDERPINK_LAYOUT(offsetof(struct folderpink_called, named) == 32);
+FOLDERPINK_LAYOUT(offsetof(struct folderpink_called, number) == 33);
+FOLDERPINK_LAYOUT(offsetof(struct folderpink_called, failsafe) == 34);
+
+#undef FOLDERPINK_LAYOUT
+#undef FOLDERPINK_ALIGN
 
 #ifdef __cplusplus
 }

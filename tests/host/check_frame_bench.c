@@ -1,5 +1,5 @@
 /*
- * Benchmark of check_frame beside the reference: nanoseconds for one sound frame
+ * Benchmark of folderpink_check_frame beside the reference: nanoseconds for one sound frame
  * of the shortest and of the longest length. The two are timed by turns in one run,
  * and the best round of each is printed.
  */
@@ -63,7 +63,7 @@ static double time_round(check_function *check, size_t length)
         }
     }
     end = now_ns();
-    if (sum != FOLDERPINK_SOUND) {
+    if (sum != FOLDERPINK_DONE) {
         fprintf(stderr, "check_frame_bench: a sound frame was refused\n");
         exit(EXIT_FAILURE);
     }
@@ -85,7 +85,7 @@ static void bench(size_t length)
         make_frame(frames[i], length, 1000 + i);
     }
     while (now_ns() - start < NS_PER_LENGTH) {
-        product = smaller(product, time_round(check_frame, length));
+        product = smaller(product, time_round(folderpink_check_frame, length));
         reference = smaller(reference, time_round(reference_check_frame, length));
     }
     printf("%zu bytes: product %.1f ns, C %.1f ns, ratio %.2f\n", length, product, reference,

@@ -1,5 +1,5 @@
 /*
- * Host test of check_frame: compares it with the reference, and with the answer
+ * Host test of folderpink_check_frame: compares it with the reference, and with the answer
  * that document 01 settles, on sound frames, damaged frames and other byte strings.
  * Ends at the first difference with a dump of the bytes and a non-zero exit status.
  */
@@ -18,7 +18,7 @@
 #include "reference.h"
 #include "subpdu.h"
 
-_Static_assert(FOLDERPINK_SOUND == 0, "no number is given for a sound frame");
+_Static_assert(FOLDERPINK_DONE == 0, "no number is given for a sound frame");
 _Static_assert(FOLDERPINK_LENGTH == 4, "number of: length");
 _Static_assert(FOLDERPINK_COPIES == 5, "number of: copies");
 _Static_assert(FOLDERPINK_CHECK_WORD == 6, "number of: check word");
@@ -172,7 +172,7 @@ static void judge(const uint8_t *bytes, size_t length, uint8_t given, uint8_t re
         counts[given]++;
         return;
     }
-    fprintf(stderr, "check_frame_test: %zu bytes, check_frame %u, reference %u", length,
+    fprintf(stderr, "check_frame_test: %zu bytes, folderpink_check_frame %u, reference %u", length,
             (unsigned)given, (unsigned)reference);
     if (fixed != NOT_FIXED) {
         fprintf(stderr, ", fixed %d", fixed);
@@ -185,7 +185,7 @@ static void judge(const uint8_t *bytes, size_t length, uint8_t given, uint8_t re
 static void compare(const uint8_t *bytes, size_t length, int fixed)
 {
     const uint8_t *placed = place(bytes, length);
-    const uint8_t given = check_frame(placed, length);
+    const uint8_t given = folderpink_check_frame(placed, length);
 
     if (memcmp(page, page_copy, page_size) != 0) {
         fprintf(stderr, "check_frame_test: %zu bytes, memory changed\n", length);
@@ -251,7 +251,7 @@ static int answer_by_form(const uint8_t *frame)
     if (!is_legal_ctrl(ctrl) || rsv != 0 || (obl != 0 && ctrl != GO_REQUEST)) {
         return FOLDERPINK_FORM;
     }
-    return FOLDERPINK_SOUND;
+    return FOLDERPINK_DONE;
 }
 
 static void compare_sealed(uint8_t *frame, size_t length)
@@ -408,14 +408,14 @@ static void test_fixed_lengths(void)
 /* Cmd and the bits 23 to 16; of the 65,536 values only the listed ones are sound. */
 static void test_every_ctrl_upper_half(void)
 {
-    const uint64_t sound_before = counts[FOLDERPINK_SOUND];
+    const uint64_t sound_before = counts[FOLDERPINK_DONE];
     uint8_t frame[FOLDERPINK_FRAME_MIN];
 
     for (uint32_t upper = 0; upper < 0x10000; upper++) {
         make_frame(frame, sizeof frame, upper << 16, 0, 0);
         compare(frame, sizeof frame, answer_by_form(frame));
     }
-    if (counts[FOLDERPINK_SOUND] - sound_before != COUNT_OF(legal_ctrl)) {
+    if (counts[FOLDERPINK_DONE] - sound_before != COUNT_OF(legal_ctrl)) {
         stop("number of sound CTRL words is not as listed");
     }
 }
@@ -440,9 +440,9 @@ static void test_every_obl(void)
         const uint32_t ctrl = legal_ctrl[random_below(COUNT_OF(legal_ctrl))];
 
         make_frame(frame, sizeof frame, GO_REQUEST, obl, 0);
-        compare(frame, sizeof frame, FOLDERPINK_SOUND);
+        compare(frame, sizeof frame, FOLDERPINK_DONE);
         make_frame(frame, sizeof frame, ctrl, obl, 0);
-        compare(frame, sizeof frame, ctrl == GO_REQUEST ? FOLDERPINK_SOUND : FOLDERPINK_FORM);
+        compare(frame, sizeof frame, ctrl == GO_REQUEST ? FOLDERPINK_DONE : FOLDERPINK_FORM);
     }
 }
 
@@ -498,7 +498,7 @@ static void compare_resized(const uint8_t *frame, size_t length, size_t resized)
 
     fill_random(bytes, resized);
     memcpy(bytes, frame, length < resized ? length : resized);
-    compare(bytes, resized, resized == length ? FOLDERPINK_SOUND : answer_by_length(resized));
+    compare(bytes, resized, resized == length ? FOLDERPINK_DONE : answer_by_length(resized));
 }
 
 static void test_every_resize(void)
@@ -528,7 +528,7 @@ static void test_every_length(void)
         if (length / 2 >= AT_RSV + 2 * WORD_SIZE) {
             make_frame(bytes, length, 0xFF040000u, 0, 0);
             compare(bytes, length,
-                    is_listed_length(length) ? FOLDERPINK_SOUND : FOLDERPINK_LENGTH);
+                    is_listed_length(length) ? FOLDERPINK_DONE : FOLDERPINK_LENGTH);
         }
     }
 }
@@ -542,8 +542,8 @@ static void test_long_string(size_t length)
     if (bytes == MAP_FAILED) {
         stop("mmap failed");
     }
-    judge(bytes, length, check_frame(bytes, length), reference_check_frame(bytes, length),
-          FOLDERPINK_LENGTH);
+    judge(bytes, length, folderpink_check_frame(bytes, length),
+          reference_check_frame(bytes, length), FOLDERPINK_LENGTH);
     munmap(bytes, length);
 }
 
@@ -617,7 +617,7 @@ static void compare_other_fields(size_t length, uint32_t ctrl)
     compare(frame, length, FOLDERPINK_FORM);
 
     make_frame(frame, length, ctrl, not_zero, 0);
-    compare(frame, length, ctrl == GO_REQUEST ? FOLDERPINK_SOUND : FOLDERPINK_FORM);
+    compare(frame, length, ctrl == GO_REQUEST ? FOLDERPINK_DONE : FOLDERPINK_FORM);
 }
 
 /* SubPDU-A of one sound frame with SubPDU-B of another. */
@@ -636,7 +636,7 @@ static void test_sound_and_damaged(size_t length, uint32_t ctrl)
     uint8_t sound[FOLDERPINK_FRAME_MAX];
 
     make_frame(sound, length, ctrl, legal_obl(ctrl), 0);
-    compare(sound, length, FOLDERPINK_SOUND);
+    compare(sound, length, FOLDERPINK_DONE);
     compare_bit_damage(sound, length);
     compare_damage_in_one_copy(sound, length);
     compare_damage_in_both_copies(sound, length);
@@ -662,7 +662,7 @@ static void test_random_frames(void)
 
 static void report(void)
 {
-    static const uint8_t answers[] = {FOLDERPINK_SOUND, FOLDERPINK_LENGTH, FOLDERPINK_COPIES,
+    static const uint8_t answers[] = {FOLDERPINK_DONE, FOLDERPINK_LENGTH, FOLDERPINK_COPIES,
                                       FOLDERPINK_CHECK_WORD, FOLDERPINK_FORM};
     uint64_t total = 0;
 

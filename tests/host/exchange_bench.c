@@ -1,30 +1,68 @@
 /*
- * Benchmark of one refresh exchange, the program of crates/exchange beside the same in C:
- * nanoseconds of processor time at 1 and at 25 words. The two programs are run by turns,
- * the best round of each is taken, and the best run of no exchanges is subtracted.
- * Usage: exchange_bench PRODUCT REFERENCE
+ * Benchmark of one refresh exchange through folderpink.h beside the same in plain C: nanoseconds
+ * of processor time with 1, 8 and 64 connections in Refresh at both ends, at 1 and 25 words.
+ * The two are timed by turns in one run, the set-up apart, and the best round of each is taken.
+ * Usage: exchange_bench [test]; test: no timing, both must show the same values.
  */
-#define _DEFAULT_SOURCE
+#define _POSIX_C_SOURCE 199309L
 
+#include <inttypes.h>
+#include <stdbool.h>
 #include <stdint.h>
 #include <stdio.h>
 #include <stdlib.h>
 #include <string.h>
-#include <sys/resource.h>
-#include <sys/time.h>
-#include <sys/wait.h>
-#include <unistd.h>
+#include <time.h>
 
-#define ROUNDS 10
-#define EXCHANGES "400000"
-#define LINE_MAX_LENGTH 200
+#include "exchange_reference.h"
+#include "folderpink.h"
+#include "reference.h"
+#include "subpdu.h"
 
-/* The best time of a program in nanoseconds, and the line that it printed. */
-struct runs {
-    const char *program;
-    double with_none;
-    double with_all;
-    char line[LINE_MAX_LENGTH];
+#define LIST_MAX (FOLDERPINK_CONNECTION_WORDS * FOLDERPINK_CONNECTIONS_MAX)
+
+#define ROUNDS 400
+#define EXCHANGES_PER_ROUND 1920
+#define EXCHANGES_TESTED 640
+
+/* So that the calls of a library are direct ones, and what joins them to a line costs nothing. */
+#define INLINE static inline __attribute__((always_inline))
+
+#define COUNT_OF(array) (sizeof(array) / sizeof((array)[0]))
+
+enum end {
+    MASTER,
+    SLAVE,
+};
+
+struct answer {
+    uint8_t number;
+    size_t count;
+    bool fail_safe;
+};
+
+/* The calls that an exchange needs, on the gateway of either end. */
+struct library {
+    void (*load)(enum end end, size_t connections, const uint32_t *list);
+    struct answer (*start)(enum end end, uint64_t clock, size_t n);
+    struct answer (*send)(enum end end, uint64_t clock, size_t n, const uint8_t *value,
+                          size_t length, uint8_t *out);
+    struct answer (*deliver)(enum end end, uint64_t clock, const uint8_t *bytes, size_t length,
+                             uint8_t *out);
+    struct answer (*show)(enum end end, uint64_t clock, size_t n, uint8_t *out);
+};
+
+/* The master's next clock reading, how many values were shown, a sum, and the buffers. */
+struct line {
+    size_t connections;
+    size_t width;
+    size_t next;
+    uint64_t clock;
+    uint64_t shown;
+    uint64_t sum;
+    uint8_t value[FOLDERPINK_VALUE_MAX];
+    uint8_t frame[FOLDERPINK_FRAME_MAX];
+    uint8_t output[FOLDERPINK_FRAME_MAX];
 };
 
 static void stop(const char *reason)
@@ -33,52 +71,281 @@ static void stop(const char *reason)
     exit(EXIT_FAILURE);
 }
 
-static double ns_of(struct timeval time)
+/* ---- The product ---- */
+
+static struct {
+    struct folderpink_record records[FOLDERPINK_CONNECTIONS_MAX];
+    size_t lent;
+    struct folderpink_gateway gateway;
+} product_ends[2];
+
+INLINE struct folderpink_call product_call(enum end end, uint64_t clock, size_t n)
 {
-    return 1e9 * (double)time.tv_sec + 1e3 * (double)time.tv_usec;
+    return (struct folderpink_call){
+        .gateway = product_ends[end].gateway,
+        .clock = clock,
+        .entry = n,
+    };
 }
 
-static void read_line(int from, char *line)
+INLINE struct answer product_answer(enum end end, struct folderpink_called called)
 {
-    size_t length = 0;
-    ssize_t got;
-
-    while ((got = read(from, line + length, LINE_MAX_LENGTH - 1 - length)) > 0) {
-        length += (size_t)got;
-    }
-    line[length] = '\0';
+    product_ends[end].gateway = called.gateway;
+    return (struct answer){called.number, called.count, called.failsafe != 0};
 }
 
-/* Runs a program to its end; returns its processor time. */
-static double run(const char *program, const char *words, const char *exchanges, char *line)
+static void product_load(enum end end, size_t connections, const uint32_t *list)
 {
-    struct rusage usage;
-    int ends[2];
-    int status;
-    pid_t child;
+    struct folderpink_called called;
 
-    if (pipe(ends) != 0) {
-        stop("pipe failed");
+    product_ends[end].lent = connections;
+    called = folderpink_load(product_ends[end].records, connections, list, 7 * connections);
+    if (called.number != FOLDERPINK_DONE) {
+        stop("the list was refused");
     }
-    child = fork();
-    if (child < 0) {
-        stop("fork failed");
+    product_ends[end].gateway = called.gateway;
+}
+
+static struct answer product_start(enum end end, uint64_t clock, size_t n)
+{
+    return product_answer(end, folderpink_start(product_ends[end].records, product_ends[end].lent,
+                                                product_call(end, clock, n)));
+}
+
+INLINE struct answer product_send(enum end end, uint64_t clock, size_t n, const uint8_t *value,
+                                  size_t length, uint8_t *out)
+{
+    return product_answer(end, folderpink_send(product_ends[end].records, product_ends[end].lent,
+                                               product_call(end, clock, n), value, length, out,
+                                               FOLDERPINK_FRAME_MAX));
+}
+
+INLINE struct answer product_deliver(enum end end, uint64_t clock, const uint8_t *bytes,
+                                     size_t length, uint8_t *out)
+{
+    return product_answer(end, folderpink_deliver(product_ends[end].records, product_ends[end].lent,
+                                                  product_call(end, clock, 0), bytes, length, out,
+                                                  FOLDERPINK_FRAME_MAX));
+}
+
+INLINE struct answer product_show(enum end end, uint64_t clock, size_t n, uint8_t *out)
+{
+    return product_answer(end,
+                          folderpink_show(product_ends[end].records, product_ends[end].lent,
+                                          product_call(end, clock, n), out, FOLDERPINK_FRAME_MAX));
+}
+
+static const struct library product = {
+    product_load, product_start, product_send, product_deliver, product_show,
+};
+
+/* ---- Plain C ---- */
+
+static struct reference_record reference_records[2][FOLDERPINK_CONNECTIONS_MAX];
+static struct reference_gateway reference_ends[2];
+
+INLINE struct answer reference_answer(struct reference_called called)
+{
+    return (struct answer){called.answer, called.count, called.fail_safe};
+}
+
+static void load_reference(enum end end, size_t connections, const uint32_t *list)
+{
+    reference_load(&reference_ends[end], reference_records[end], connections, list,
+                   7 * connections);
+}
+
+static struct answer start_reference(enum end end, uint64_t clock, size_t n)
+{
+    return reference_answer(reference_start(&reference_ends[end], clock, n));
+}
+
+INLINE struct answer send_reference(enum end end, uint64_t clock, size_t n, const uint8_t *value,
+                                    size_t length, uint8_t *out)
+{
+    return reference_answer(
+        reference_send(&reference_ends[end], clock, n, value, length, out, FOLDERPINK_FRAME_MAX));
+}
+
+INLINE struct answer deliver_reference(enum end end, uint64_t clock, const uint8_t *bytes,
+                                       size_t length, uint8_t *out)
+{
+    return reference_answer(
+        reference_deliver(&reference_ends[end], clock, bytes, length, out, FOLDERPINK_FRAME_MAX));
+}
+
+INLINE struct answer show_reference(enum end end, uint64_t clock, size_t n, uint8_t *out)
+{
+    return reference_answer(
+        reference_show(&reference_ends[end], clock, n, out, FOLDERPINK_FRAME_MAX));
+}
+
+static const struct library reference = {
+    load_reference, start_reference, send_reference, deliver_reference, show_reference,
+};
+
+/* ---- A line ---- */
+
+/* The slave's clock reads 5,000 ticks more than the master's. */
+INLINE uint64_t at_slave(uint64_t clock)
+{
+    return clock + 5000;
+}
+
+/* A settings list with words of one width both ways, and the longest timers. */
+static void make_list(uint32_t *list, enum end end, size_t connections, uint32_t words)
+{
+    for (uint32_t i = 0; i < connections; i++) {
+        list[7 * i] = 0x10000102u;
+        list[7 * i + 1] = 0x20000103u + i;
+        list[7 * i + 2] = 0x30000000u + (end == SLAVE ? 1024u : 0u) + 33 * words;
+        list[7 * i + 3] = 0x4000FFFFu;
+        list[7 * i + 4] = 0x5000FFFFu;
+        list[7 * i + 5] = 0x6000FFFFu;
+        list[7 * i + 6] = 0x70012345u;
     }
-    if (child == 0) {
-        dup2(ends[1], STDOUT_FILENO);
-        close(ends[0]);
-        close(ends[1]);
-        execl(program, program, words, exchanges, (char *)NULL);
-        _exit(EXIT_FAILURE);
+}
+
+/* A setup request, with its reply. */
+static void ask(const struct library *library, struct line *line, size_t n)
+{
+    struct answer answer;
+
+    answer = library->send(MASTER, line->clock, n, line->value, 0, line->frame);
+    answer =
+        library->deliver(SLAVE, at_slave(line->clock + 1), line->frame, answer.count, line->output);
+    library->deliver(MASTER, line->clock + 2, line->output, answer.count, line->frame);
+    line->clock += 3;
+}
+
+/* Both ends loaded, and all connections brought to Refresh. */
+static void set_up(const struct library *library, struct line *line, size_t connections,
+                   uint32_t words)
+{
+    uint32_t list[LIST_MAX];
+
+    *line = (struct line){.connections = connections, .width = 4 * words, .clock = 1};
+    for (unsigned i = 0; i < FOLDERPINK_VALUE_MAX; i++) {
+        line->value[i] = (uint8_t)(37 * i);
     }
-    close(ends[1]);
-    read_line(ends[0], line);
-    close(ends[0]);
-    if (wait4(child, &status, 0, &usage) != child || !WIFEXITED(status) ||
-        WEXITSTATUS(status) != EXIT_SUCCESS) {
-        stop("a program failed");
+    make_list(list, MASTER, connections, words);
+    library->load(MASTER, connections, list);
+    make_list(list, SLAVE, connections, words);
+    library->load(SLAVE, connections, list);
+    for (size_t n = 0; n < connections; n++) {
+        library->start(MASTER, line->clock, n);
+        line->clock++;
+        for (unsigned request = 0; request < 5; request++) {
+            ask(library, line, n);
+        }
     }
-    return ns_of(usage.ru_utime) + ns_of(usage.ru_stime);
+}
+
+/* Counts a value that was shown; the sum takes its first word and the 25th. */
+INLINE void count_shown(struct line *line, struct answer answer)
+{
+    if (answer.number == FOLDERPINK_DONE && !answer.fail_safe) {
+        line->shown++;
+    }
+    line->sum =
+        31 * (line->sum & 0xFFFFFFFFu) + get_word(line->output) + get_word(line->output + 96);
+}
+
+/* One exchange: the master sends, the slave takes and shows; then the other way. */
+INLINE void exchange(const struct library *library, struct line *line, size_t n)
+{
+    struct answer answer;
+    uint64_t now = line->clock;
+
+    put_word(line->value, (uint32_t)now);
+    answer = library->send(MASTER, now, n, line->value, line->width, line->frame);
+    now = at_slave(line->clock + 1);
+    library->deliver(SLAVE, now, line->frame, answer.count, line->output);
+    count_shown(line, library->show(SLAVE, now, n, line->output));
+
+    now = at_slave(line->clock + 2);
+    put_word(line->value, (uint32_t)now);
+    answer = library->send(SLAVE, now, n, line->value, line->width, line->frame);
+    now = line->clock + 3;
+    library->deliver(MASTER, now, line->frame, answer.count, line->output);
+    count_shown(line, library->show(MASTER, now, n, line->output));
+
+    line->clock += 4;
+}
+
+/* So many exchanges, over the connections by turns. */
+INLINE void exchange_all(const struct library *library, struct line *line, unsigned exchanges)
+{
+    for (unsigned i = 0; i < exchanges; i++) {
+        exchange(library, line, line->next);
+        line->next = line->next + 1 < line->connections ? line->next + 1 : 0;
+    }
+}
+
+static void exchange_product(struct line *line, unsigned exchanges)
+{
+    exchange_all(&product, line, exchanges);
+}
+
+static void exchange_reference(struct line *line, unsigned exchanges)
+{
+    exchange_all(&reference, line, exchanges);
+}
+
+/* The sum, with all bytes of the output. */
+static uint64_t total(const struct line *line)
+{
+    uint64_t sum = line->sum;
+
+    for (size_t i = 0; i < sizeof line->output; i++) {
+        sum += line->output[i];
+    }
+    return sum;
+}
+
+static void compare(const struct line *a, const struct line *b, uint64_t exchanges)
+{
+    if (a->shown != 2 * exchanges || b->shown != a->shown || total(a) != total(b)) {
+        stop("the two did not show the same values");
+    }
+}
+
+/* ---- Test and benchmark ---- */
+
+static struct line product_line;
+static struct line reference_line;
+
+static void set_up_both(size_t connections, uint32_t words)
+{
+    set_up(&product, &product_line, connections, words);
+    set_up(&reference, &reference_line, connections, words);
+}
+
+static void test(size_t connections, uint32_t words)
+{
+    set_up_both(connections, words);
+    exchange_product(&product_line, EXCHANGES_TESTED);
+    exchange_reference(&reference_line, EXCHANGES_TESTED);
+    compare(&product_line, &reference_line, EXCHANGES_TESTED);
+    printf("exchange: connections %zu, words %u, exchanges %u, shown %" PRIu64 ", sum %" PRIu64
+           ", the same in C\n",
+           connections, words, EXCHANGES_TESTED, product_line.shown, total(&product_line));
+}
+
+static double now_ns(void)
+{
+    struct timespec now;
+
+    clock_gettime(CLOCK_PROCESS_CPUTIME_ID, &now);
+    return 1e9 * (double)now.tv_sec + (double)now.tv_nsec;
+}
+
+static double time_round(void (*run)(struct line *, unsigned), struct line *line)
+{
+    const double start = now_ns();
+
+    run(line, EXCHANGES_PER_ROUND);
+    return (now_ns() - start) / EXCHANGES_PER_ROUND;
 }
 
 static double smaller(double a, double b)
@@ -86,40 +353,35 @@ static double smaller(double a, double b)
     return a < b ? a : b;
 }
 
-static void run_round(struct runs *runs, const char *words)
+static void bench(size_t connections, uint32_t words)
 {
-    runs->with_none = smaller(runs->with_none, run(runs->program, words, "0", runs->line));
-    runs->with_all = smaller(runs->with_all, run(runs->program, words, EXCHANGES, runs->line));
-}
+    double product_ns = 1e12;
+    double reference_ns = 1e12;
 
-static double ns_per_exchange(const struct runs *runs)
-{
-    return (runs->with_all - runs->with_none) / strtod(EXCHANGES, NULL);
-}
-
-static void bench(const char *product_program, const char *reference_program, const char *words)
-{
-    struct runs product = {.program = product_program, .with_none = 1e12, .with_all = 1e12};
-    struct runs reference = {.program = reference_program, .with_none = 1e12, .with_all = 1e12};
-
-    for (unsigned round = 0; round < ROUNDS; round++) {
-        run_round(&product, words);
-        run_round(&reference, words);
-        if (strcmp(product.line, reference.line) != 0) {
-            stop("the two programs printed different lines");
-        }
+    set_up_both(connections, words);
+    for (uint64_t round = 1; round <= ROUNDS; round++) {
+        product_ns = smaller(product_ns, time_round(exchange_product, &product_line));
+        reference_ns = smaller(reference_ns, time_round(exchange_reference, &reference_line));
+        compare(&product_line, &reference_line, round * EXCHANGES_PER_ROUND);
     }
-    printf("exchange, words %s: product %.0f ns, C %.0f ns, ratio %.2f\n", words,
-           ns_per_exchange(&product), ns_per_exchange(&reference),
-           ns_per_exchange(&product) / ns_per_exchange(&reference));
+    printf("exchange, connections %zu, words %u: product %.0f ns, C %.0f ns, ratio %.2f\n",
+           connections, words, product_ns, reference_ns, product_ns / reference_ns);
 }
 
 int main(int argc, char **argv)
 {
-    if (argc != 3) {
-        stop("usage: exchange_bench PRODUCT REFERENCE");
+    static const size_t connections[] = {1, 8, 64};
+    static const uint32_t words[] = {1, 25};
+    const bool tested = argc == 2 && strcmp(argv[1], "test") == 0;
+
+    if (argc != 1 && !tested) {
+        stop("usage: exchange_bench [test]");
     }
-    bench(argv[1], argv[2], "1");
-    bench(argv[1], argv[2], "25");
+    reference_init();
+    for (size_t i = 0; i < COUNT_OF(connections); i++) {
+        for (size_t j = 0; j < COUNT_OF(words); j++) {
+            (tested ? test : bench)(connections[i], words[j]);
+        }
+    }
     return EXIT_SUCCESS;
 }

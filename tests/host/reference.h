@@ -1,6 +1,6 @@
 /*
  * Frame check in plain C, written from document 01 alone: the host test compares
- * check_frame with it, the benchmark takes it as the baseline.
+ * folderpink_check_frame with it, the benchmark takes it as the baseline.
  */
 #ifndef REFERENCE_H
 #define REFERENCE_H
@@ -14,7 +14,7 @@ void reference_init(void);
 /* CRC32 by the Castagnoli generator, as RFC 3720 computes it. */
 uint32_t reference_crc32c(const uint8_t *bytes, size_t length);
 
-/* The same answers as check_frame. */
+/* The same answers as folderpink_check_frame. */
 uint8_t reference_check_frame(const uint8_t *bytes, size_t length);
 
 #endif

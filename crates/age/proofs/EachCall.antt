@@ -1,4 +1,4 @@
--- Every call on a device has its match on the endpoint of the CID.
+-- Every call on a gateway has its match on the endpoint of the CID.
 use mathlib.Core.Path.{_≡_, refl, sym, ap, subst, _∙_}
 use mathlib.Core.Bool.{Bool, true, false, _&&_, not, cond, false≢true}
 use mathlib.Core.List.{List, [], _∷_}
@@ -14,7 +14,7 @@ use Rattle.frame.specs.declared.Reading.the-variants.{Frame}
 use Rattle.frame.specs.Control.{is}
 use Rattle.frame.specs.Reading.{readingOf}
 use Rattle.endpoint.specs.declared.Settings.{Settings}
-use Rattle.endpoint.specs.declared.Endpoint.{Endpoint}
+use Rattle.endpoint.specs.Endpoint.{Endpoint}
 use Rattle.endpoint.specs.declared.Answer.{Answer}
 use Rattle.endpoint.specs.Answers.{isDone}
 use Rattle.endpoint.specs.Time.{isExpired, afterTick}
@@ -23,17 +23,14 @@ use Rattle.steps.specs.Calls.{Outcome, isFailSafe, shownOf}
 use Rattle.steps.specs.Steps as S
 use Rattle.steps.proofs.CallLaws.{step-laws}
 use Rattle.steps.proofs.Keeps.{bcase}
-use Rattle.device.specs.declared.Device.{Device}
-use Rattle.device.specs.declared.Entry.{Entry}
-use Rattle.device.specs.declared.Entry.the-variants.{At}
-use Rattle.device.specs.Tables.{endpointAt, entryOf}
-use Rattle.device.specs.Clock.{isReading, clockStep, afterClock}
-use Rattle.device.specs.Calls.{Result, result, actedOf, shownIn}
+use Rattle.records.specs.Records.{recordOf}
+use Rattle.gateway.specs.Tables.{Lent, endpointAt, placeOf, isReading, clockStep, afterClock}
+use Rattle.gateway.specs.Calls.{Entry, Result, result, actedOf, shownIn}
 use Rattle.link.specs.Runs as L
-use Rattle.runs.specs.Steps.{Call, act, send, deliver, show, callIn, isAt}
+use Rattle.runs.specs.Steps.{Call, act, send, deliver, show, callIn}
 use Rattle.runs.specs.Bus.{onBus, isOf, isRefreshIn, isFrameOf, isRefreshOf}
-use Rattle.runs.proofs.Tables.{Like, like-tick, like-at, like-length, ticked-at, placed-here, placed-there, at}
-use Rattle.runs.proofs.Tables.{entry-like, entry-found}
+use Rattle.runs.proofs.Tables.{Whole, Like, like-at, like-whole, like-tick, ticked-at, placed-there, place-like}
+use Rattle.runs.proofs.Tables.{place-has}
 use Rattle.runs.proofs.Loaded.{Table}
 use Rattle.runs.proofs.Idle.{call-expired, call-timely, tick-expired, tick-timely}
 use Rattle.runs.proofs.Reaching as A
@@ -68,18 +65,28 @@ flip : (b : Bool) (x : L.Show) → cond {A = List L.Show} (not b) (x ∷ []) [] 
 flip true x = refl
 flip false x = refl
 
-module _ (cid : ℕ) (slave : Bool) (m : ℕ) (d₀ : Device) (n : ℕ) (T : Table d₀ cid n) (d : Device) (same : Like d d₀)
-    (t room : ℕ) (reading : isReading (d .last) t ≡ true) (log : List L.Sent) (good : AllGood cid log) (took : ℕ)
+module _ (cid : ℕ) (slave : Bool) (m : ℕ) (d₀ : Lent) (n : ℕ) (T : Table d₀ cid n) (d : Lent) (same : Like d d₀)
+    (t room : ℕ) (reading : isReading (d .gateway) t ≡ true) (log : List L.Sent) (good : AllGood cid log) (took : ℕ)
   where
     abbrev Match : Call → Type 0
     Match c = Matches cid slave m d n t room log took c
 
     -- the CID's entry, and its CID
-    the-entry : entryOf cid (d .count) (d .endpoints) ≡ At n
-    the-entry = entry-like same cid ∙ T .entry
+    the-entry : placeOf cid d ≡ n
+    the-entry = place-like same cid ∙ T .entry
 
-    its-cid : endpointAt (d .endpoints) n .settings .connection ≡ cid
+    its-cid : endpointAt d n .settings .connection ≡ cid
     its-cid = ap (λ (s : Settings). s .connection) (like-at same n) ∙ T .has
+
+    -- it takes the clock step
+    whole : Whole d
+    whole = like-whole same (T .whole)
+
+    counted : n < d .gateway .count
+    counted = rw (same .counts) (T .counted)
+
+    ticks : endpointAt (clockStep t d) n ≡ afterTick (endpointAt d n) t
+    ticks = ticked-at d t n whole counted
 
     -- ---- no connection's
     not-done : (c : Call) (r : Result) → isDone (r .answer) ≡ false → showsValue cid d c r ≡ false
@@ -87,7 +94,7 @@ module _ (cid : ℕ) (slave : Bool) (m : ℕ) (d₀ : Device) (n : ℕ) (T : Tab
     not-done (send k value) r h = refl
     not-done (deliver s) r h = refl
     not-done (show k) r h =
-        let i = isAt (entryOf cid (d .count) (d .endpoints)) k in
+        let i = eqb (placeOf cid d) k in
         ap (λ (b : Bool). i && (b && not (r .failsafe))) h ∙ and-false i
 
     took-none : (c : Call) → tookBy cid (toLog log) c false took ≡ took
@@ -99,7 +106,8 @@ module _ (cid : ℕ) (slave : Bool) (m : ℕ) (d₀ : Device) (n : ℕ) (T : Tab
     nowhere : {c : Call} (a : Answer) (x : Entry) → A.Still c a
         → callIn d t room c ≡ result a x W.nothing false (afterClock t d) → Match c
     nowhere {c = c} a x s q =
-        only-clock cid slave m d n t room log took c (ap (λ (r : Result). r .device) q ∙ clocked d t reading)
+        only-clock cid slave m d n t room log took c whole counted
+        (ap (λ (r : Result). r .lent) q ∙ clocked d t reading whole)
         (ap (λ (r : Result). isFrameOf cid (onBus (r .writes))) q ∙ empty cid)
         (ap (showsValue cid d c) q ∙ silent s)
         (ap (λ (r : Result). tookBy cid (toLog log) c (isDone (r .answer)) took) q ∙ none s)
@@ -115,28 +123,27 @@ module _ (cid : ℕ) (slave : Bool) (m : ℕ) (d₀ : Device) (n : ℕ) (T : Tab
             ∙ ap (λ (b : Bool). cond b (lastOf s (toLog log)) took) (and-false (isDone a))
 
     -- ---- a show
-    shows-other : (k : ℕ) → callIn d t room (show k) ≡ shownIn (afterTick (endpointAt (d .endpoints) k) t) t k d
+    shows-other : (k : ℕ) → callIn d t room (show k) ≡ shownIn (afterTick (endpointAt d k) t) t k d
         → eqb n k ≡ false → Match (show k)
     shows-other k q b =
         let r = callIn d t room (show k) in
-        only-clock cid slave m d n t room log took (show k) (ap (λ (r : Result). r .device) q)
+        only-clock cid slave m d n t room log took (show k) whole counted (ap (λ (r : Result). r .lent) q)
         (ap (λ (r : Result). isFrameOf cid (onBus (r .writes))) q ∙ empty cid)
-        (ap (λ (i : Bool). i && (isDone (r .answer) && not (r .failsafe))) (ap (λ (y : Entry). isAt y k) the-entry ∙ b))
+        (ap (λ (i : Bool). i && (isDone (r .answer) && not (r .failsafe))) (ap (λ (i : ℕ). eqb i k) the-entry ∙ b))
         refl
 
-    shows-own : callIn d t room (show n) ≡ shownIn (afterTick (endpointAt (d .endpoints) n) t) t n d → Match (show n)
+    shows-own : callIn d t room (show n) ≡ shownIn (afterTick (endpointAt d n) t) t n d → Match (show n)
     unfolding toLog
     shows-own q =
-        let e = endpointAt (d .endpoints) n in
+        let e = endpointAt d n in
         let x = afterTick e t in
         let y = L.shown slave m (shownOf x) took (length log) in
         let c = show-call slave m e t in
         let v : showsValue cid d (show n) (shownIn x t n d) ≡ not (isFailSafe x) =
-        ap (λ (b : Bool). b && (true && not (isFailSafe x)))
-        (ap (λ (y : Entry). isAt y n) the-entry ∙ eq-eqb n n refl) in
+        ap (λ (b : Bool). b && (true && not (isFailSafe x))) (eq-eqb (placeOf cid d) n the-entry) in
         record {
           by = S.show;
-          endpoint = ap (λ (r : Result). endpointAt (r .device .endpoints) n) q ∙ ticked-at d t n ∙ sym (c .0);
+          endpoint = ap (λ (r : Result). endpointAt (r .lent) n) q ∙ ticks ∙ sym (c .0);
           logs = ap (λ (r : Result). logged cid slave m (show n) (r .writes)) q
               ∙ not-logged cid slave m (show n) (W.value (shownOf x)) (empty cid) ∙ sym (ap toLog (c .1));
           good = subst (AllGood cid) (sym (c .1)) no-more;
@@ -145,21 +152,20 @@ module _ (cid : ℕ) (slave : Bool) (m : ℕ) (d₀ : Device) (n : ℕ) (T : Tab
               ∙ flip (isFailSafe x) y ∙ sym (ap (L.shownBy slave m took (length log) S.show) (c .0));
           takes = refl;
           may = refl;
-          like = subst (λ (r : Result). Like (r .device) d) (sym q) (like-tick d t);
+          like = subst (λ (r : Result). Like (r .lent) d) (sym q) (like-tick d t);
         }
 
     -- ---- a frame for the connection at k
     module _ (s : List ℕ) (f : Fields) (from to k : ℕ) (is-frame : readingOf s ≡ Frame f from to)
-        (h : entryOf (f .connection) (d .count) (d .endpoints) ≡ At k) where
+        (h : placeOf (f .connection) d ≡ k) where
       -- the entry's CID is the frame's
       its-frame : k ≡ n → f .connection ≡ cid
       its-frame q =
-          sym (entry-found (f .connection) (d .count) k (d .endpoints) h .has)
-          ∙ ap (λ (i : ℕ). endpointAt (d .endpoints) i .settings .connection) q ∙ its-cid
+          sym (place-has (f .connection) d whole (rw (h, q) counted))
+          ∙ ap (λ (i : ℕ). endpointAt d i .settings .connection) (h ∙ q) ∙ its-cid
 
       no-frame : (k ≡ n → ⊥) → f .connection ≡ cid → ⊥
-      no-frame ne q =
-          ne (ap at (sym h ∙ ap (λ (c : ℕ). entryOf c (d .count) (d .endpoints)) q ∙ the-entry))
+      no-frame ne q = ne (sym h ∙ ap (λ (c : ℕ). placeOf c d) q ∙ the-entry)
 
       refreshes : isRefreshOf cid s ≡ (eqb (f .connection) cid && is (f .command) K.Refresh)
       refreshes = ap (isRefreshIn cid) is-frame
@@ -204,7 +210,7 @@ module _ (cid : ℕ) (slave : Bool) (m : ℕ) (d₀ : Device) (n : ℕ) (T : Tab
             (eq-eqb (f .connection) cid (its-frame q)))
             ∙ ap (λ (i : ℕ). cond (isDone a && is (f .command) K.Refresh) i took) last-place
 
-    -- ---- a call for the connection at k, on the device and on the endpoint
+    -- ---- a call for the connection at k, on the gateway and on the endpoint
     lent : {c : Call} {by : S.Call} {k : ℕ} → A.For d c by k → lentTo c ≡ L.lentTo by
     lent (A.acts a k) = refl
     lent (A.sends k value) = refl
@@ -242,42 +248,39 @@ module _ (cid : ℕ) (slave : Bool) (m : ℕ) (d₀ : Device) (n : ℕ) (T : Tab
     module _ (c : Call) (by : S.Call) (k : ℕ) (names : A.For d c by k)
         (is : callIn d t room c ≡ actedOf (A.does d t by k) t k d) (live : A.Live d t k) where
       abbrev e : Endpoint
-      e = endpointAt (d .endpoints) k
+      e = endpointAt d k
 
       abbrev o : Outcome
       o = A.does d t by k
 
-      stays : Like (callIn d t room c .device) d
-      stays = subst (λ (r : Result). Like (r .device) d) (sym is) (A.step-like d t by k)
+      stays : Like (callIn d t room c .lent) d
+      stays = subst (λ (r : Result). Like (r .lent) d) (sym is) (A.step-like d t by k)
 
       -- of another connection
       steps-other : (k ≡ n → ⊥) → Match c
       steps-other ne =
-          let counted = subst (λ (i : ℕ). k < i) (same .counts) (live .counted) in
+          let there : k < d₀ .gateway .count = rw (same .counts) at (live .counted) in
           idle cid slave m d n t room log took c
-          (ap (λ (r : Result). endpointAt (r .device .endpoints) n) is
-          ∙ placed-there (clockStep t d) k n (o .endpoint) (λ q. ne (sym q)) ∙ ticked-at d t n)
+          (ap (λ (r : Result). endpointAt (r .lent) n) is
+          ∙ placed-there (clockStep t d) k n (recordOf (o .endpoint)) (λ q. ne (sym q)) ∙ ticks)
           (ap (λ (r : Result). isFrameOf cid (onBus (r .writes))) is
           ∙ other-frame cid e (o .writes) (step-laws .carries e t by)
-          (λ q. T .others k counted (live .within) ne (ap (λ (s : Settings). s .connection) (sym (like-at same k)) ∙ q)))
+          (λ q. T .others k there ne (ap (λ (s : Settings). s .connection) (sym (like-at same k)) ∙ q)))
           (no-show names (callIn d t room c)) (took-other names ne (isDone (callIn d t room c .answer))) stays
 
       -- of this one
       steps-own : k ≡ n → mayDeliver cid (toLog log) c ≡ true → Match c
       steps-own k≡n may =
           let p : S.callOf e t by ≡ o = call-timely e t by (live .timely) in
-          let there : endpointAt (d .endpoints) n ≡ e = ap (endpointAt (d .endpoints)) (sym k≡n) in
-          let l : k < length (clockStep t d .endpoints) =
-          subst (λ (i : ℕ). k < i) (sym (like-length (like-tick d t) ∙ like-length same ∙ T .sound .length8))
-          (live .within) in
+          let there : endpointAt d n ≡ e = ap (endpointAt d) (sym k≡n) in
           let has : e .settings .connection ≡ cid =
-          ap (λ (i : ℕ). endpointAt (d .endpoints) i .settings .connection) k≡n ∙ its-cid in
-          let does : S.callOf (endpointAt (d .endpoints) n) t by ≡ o = ap (λ (x : Endpoint). S.callOf x t by) there ∙ p in
+          ap (λ (i : ℕ). endpointAt d i .settings .connection) k≡n ∙ its-cid in
+          let does : S.callOf (endpointAt d n) t by ≡ o = ap (λ (x : Endpoint). S.callOf x t by) there ∙ p in
           record {
             by = by;
-            endpoint = ap (λ (r : Result). endpointAt (r .device .endpoints) n) is
-                ∙ ap (endpointAt (actedOf o t k d .device .endpoints)) (sym k≡n)
-                ∙ placed-here (clockStep t d) k (o .endpoint) l ∙ sym (ap (λ (y : Outcome). y .endpoint) does);
+            endpoint = ap (λ (r : Result). endpointAt (r .lent) n) is
+                ∙ ap (endpointAt (actedOf o t k d .lent)) (sym k≡n)
+                ∙ A.step-at d t by k live ∙ sym (ap (λ (y : Outcome). y .endpoint) does);
             logs = ap (λ (r : Result). logged cid slave m c (r .writes)) is
                 ∙ own-log cid slave m c by e (o .writes) (step-laws .carries e t by) has (lent names)
                 ∙ sym (ap (λ (y : Outcome). toLog (L.logged slave m by (y .writes))) does);
@@ -286,7 +289,8 @@ module _ (cid : ℕ) (slave : Bool) (m : ℕ) (d₀ : Device) (n : ℕ) (T : Tab
             shows = not-shown cid slave m d n t room log took c (callIn d t room c)
                 (no-show names (callIn d t room c)) ∙ sym (no-show-by names _);
             takes = ap (λ (r : Result). tookBy cid (toLog log) c (isDone (r .answer)) took) is
-                ∙ took-own names k≡n may (o .answer) ∙ sym (ap (λ (y : Outcome). L.tookBy log by (y .answer) took) does);
+                ∙ took-own names k≡n may (o .answer)
+                ∙ sym (ap (λ (y : Outcome). L.tookBy log by (y .answer) took) does);
             may = may-own names k≡n may;
             like = stays;
           }
@@ -299,7 +303,7 @@ module _ (cid : ℕ) (slave : Bool) (m : ℕ) (d₀ : Device) (n : ℕ) (T : Tab
         (λ b. let i = eqb-true n k b in
         subst (λ (j : ℕ). Match (show j)) i
         (shows-own (subst (λ (j : ℕ). callIn d t room (show j)
-        ≡ shownIn (afterTick (endpointAt (d .endpoints) j) t) t j d) (sym i) q)))
+        ≡ shownIn (afterTick (endpointAt d j) t) t j d) (sym i) q)))
         (shows-other k q)
     matches {c = c} (A.stepping by k f q l) may =
         bcase (eqb k n) (λ b. steps-own c by k f q l (eqb-true k n b) may)

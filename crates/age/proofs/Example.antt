@@ -1,18 +1,23 @@
--- The theorem's premises can be met: two devices are loaded, the line starts, its station at first not ready,
--- refreshes both ways, and shows both values. All of it is computed.
+-- The theorem's premises can be met: two gateways are loaded into slices that were in use, the line starts, its station
+-- at first not ready, refreshes both ways, and shows both values. All of it is computed.
 use mathlib.Core.Path.{_≡_, refl, ap}
 use mathlib.Core.Bool.{Bool, true, false}
 use mathlib.Core.List.{List, [], _∷_, _++_}
 use Prim.Native.Nat.{ℕ, _+_}
+use lib.ListN.{replicate}
 use Rattle.crc.specs.Crc.{bitStep, bitSteps, byteStep, crcFrom, crc}
 use Rattle.frame.specs.declared.Command.{Command}
 use Rattle.frame.specs.declared.Command.the-variants as K
 use Rattle.frame.specs.Control.{controlOf, hasForm}
 use Rattle.frame.specs.Reading.{hasCheckWord, fieldsIn, readingOfCopies, readingOf}
 use Rattle.frame.specs.Writing.{headBytes, withCheckWord, twice, subBytes, frameBytes, isWritable}
+use Rattle.transitions.specs.ByCall.{freshOf}
+use Rattle.transitions.specs.ByFrame.{refreshedOf}
 use Rattle.steps.specs.Frames.{sentFields, ackFields, setupData}
 use Rattle.settings.specs.Lists.{connectionAt, settingsAt, isConnectionAt, isNewAt, areConnections, isList}
-use Rattle.device.specs.Tables.{endpointAt, findFrom, entryOf, freshUpTo, tickedAll}
+use Rattle.records.specs.declared.Record.{Record}
+use Rattle.records.specs.Records.{recordOf}
+use Rattle.gateway.specs.Tables.{endpointAt, placeOf, clockStep}
 use Rattle.steps.specs.Steps.{start, setNotReady}
 use Rattle.link.specs.Runs as L
 use Rattle.runs.specs.Steps.{Call, act, send, deliver, show, call}
@@ -34,6 +39,13 @@ clocks = record { master = 5000; slave = 0 }
 
 cid : ℕ
 cid = 0x01020103
+
+-- lent to both: one record more than the list has connections, and each is of the CID and holds another value
+slice : List Record
+slice = used ∷ used ∷ []
+  where
+    used : Record
+    used = recordOf (refreshedOf (freshOf (settingsAt (list 0x30000421) 0)) 5 3 (replicate 100 9))
 
 data-of : Command → List ℕ
 data-of k = setupData (settingsAt (list 0x30000021) 0) k
@@ -73,18 +85,16 @@ line =
     ∷ at-master 80 (show 0) ∷ [])))))))))
 
 run : Run
-run = runOf (list 0x30000021) (list 0x30000421) cid clocks line
+run = runOf (list 0x30000021) slice (list 0x30000421) slice cid clocks line
 
--- each device holds the CID at entry 0
-master : Holds (list 0x30000021) cid false
-unfolding list cid connectionAt settingsAt isConnectionAt isNewAt areConnections isList freshUpTo endpointAt
-    findFrom entryOf
-master = record { done = refl; entry = 0; there = refl; role = refl }
+-- each gateway holds the CID
+master : Holds (list 0x30000021) slice cid false
+unfolding list cid slice connectionAt settingsAt isConnectionAt isNewAt areConnections isList endpointAt placeOf
+master = record { done = refl; there = refl; role = refl }
 
-slave : Holds (list 0x30000421) cid true
-unfolding list cid connectionAt settingsAt isConnectionAt isNewAt areConnections isList freshUpTo endpointAt
-    findFrom entryOf
-slave = record { done = refl; entry = 0; there = refl; role = refl }
+slave : Holds (list 0x30000421) slice cid true
+unfolding list cid slice connectionAt settingsAt isConnectionAt isNewAt areConnections isList endpointAt placeOf
+slave = record { done = refl; there = refl; role = refl }
 
 values : List L.Show
 values = L.shown true 5070 (1 ∷ 2 ∷ 3 ∷ 4 ∷ []) 13 13 ∷ L.shown false 5080 (5 ∷ 6 ∷ 7 ∷ 8 ∷ []) 14 14 ∷ []
@@ -94,8 +104,8 @@ abbrev told : Run → Bool × List L.Show
 told r = (r .allowed, r .shows)
 
 computed : told run ≡ (true, values)
-unfolding run line exchange answered data-of clocks at-master at-slave list cid values afterAll lastFrom lastOf
-    endpointAt findFrom entryOf freshUpTo tickedAll connectionAt settingsAt isConnectionAt isNewAt areConnections isList
+unfolding run line exchange answered data-of clocks at-master at-slave list cid slice values afterAll lastFrom lastOf
+    endpointAt placeOf clockStep connectionAt settingsAt isConnectionAt isNewAt areConnections isList
     setupData controlOf hasForm hasCheckWord fieldsIn readingOfCopies readingOf headBytes withCheckWord twice
     subBytes frameBytes isWritable bitStep bitSteps byteStep crcFrom crc
 computed = refl

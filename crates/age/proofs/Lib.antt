@@ -1,4 +1,4 @@
--- Demand 3 for devices: the bytes between them, one call, every list of calls.
+-- Demand 3 for gateways: the bytes between them, one call, every list of calls.
 pub mod Logs
 pub mod OneCall
 pub mod EachCall

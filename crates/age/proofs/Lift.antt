@@ -1,58 +1,55 @@
--- Demand 3: every list of calls on two devices has a list of calls on the two endpoints of the CID that writes, takes
--- and shows the same, so the theorem on endpoints gives the one on devices.
+-- Demand 3: every list of calls on two gateways has a list of calls on the two endpoints of the CID that writes, takes
+-- and shows the same, so the theorem on endpoints gives the one on gateways.
 use mathlib.Core.Path.{_≡_, refl, sym, ap, ap₂, subst, _∙_}
-use mathlib.Core.Bool.{Bool, true, false, _&&_, not, cond, false≢true}
+use mathlib.Core.Bool.{Bool, true, false, _&&_, _||_, not, cond, false≢true}
 use mathlib.Core.List.{List, [], _∷_, _++_}
 use Prim.Native.Nat.{ℕ, suc, _+_, _-_, _≤_, _<_}
 use native.Mathlib.Omega.{arith}
-use lib.Dec.{leb}
+use lib.Dec.{eqb, leb}
 use borrow.Author.Tests.{eq-eqb}
 use lib.ListN.{length}
 use mathlib.Mathlib.Data.Bool.Basic.{and-elim-left as and-left, and-elim-right as and-right, and-intro as both}
 use Rattle.endpoint.specs.declared.Settings.{Settings}
-use Rattle.endpoint.specs.declared.Timestamp.{Timestamp}
-use Rattle.endpoint.specs.declared.Timestamp.the-variants.{Never, At}
-use Rattle.endpoint.specs.declared.Endpoint.{Endpoint}
+use Rattle.endpoint.specs.Endpoint.{Endpoint}
 use Rattle.endpoint.specs.Answers.{isDone}
 use Rattle.endpoint.specs.Time.{lastReading}
 use Rattle.steps.specs.Steps as S
 use Rattle.steps.proofs.Dispatch.{cond-true, cond-false}
 use Rattle.steps.proofs.Keeps.{bcase}
-use Rattle.device.specs.declared.Device.{Device}
-use Rattle.device.specs.Tables.{endpointAt}
-use Rattle.device.specs.Clock.{isReading}
-use Rattle.device.specs.Calls.{Result}
-use Rattle.device.specs.Loading.{loadedOf}
+use Rattle.records.specs.declared.Record.{Record}
+use Rattle.gateway.specs.declared.Gateway.{Gateway}
+use Rattle.gateway.specs.Tables.{Lent, endpointAt, placeOf, isReading}
+use Rattle.gateway.specs.Calls.{Result}
+use Rattle.gateway.specs.Loading.{loadedOf}
 use Rattle.link.specs.Runs as L
 use Rattle.link.specs.Fresh as F
 use Rattle.link.proofs.AgeProof.{age-theorem}
 use Rattle.runs.specs.Steps.{Call, Step, load, call, callIn}
 use Rattle.runs.proofs.Tables.{Like, like-trans}
-use Rattle.runs.proofs.Loaded.{Table, loaded}
+use Rattle.runs.proofs.Loaded.{Table, loaded-table}
 use Rattle.runs.proofs.Reaching.{reach}
-use Rattle.age.specs.Runs.{Event, Sent, sentAt, logged, mayDeliver, neverFalls, tookBy, shownBy, Run, deviceAt}
+use Rattle.age.specs.Runs.{Event, Sent, sentAt, logged, mayDeliver, neverFalls, tookBy, shownBy, Run, lentAt}
 use Rattle.age.specs.Runs.{isAccepted, afterCall, afterStep, afterAll, begun}
 use Rattle.age.specs.Demand.{Holds, settingsIn, ItsSend, Fresh, runOf, Demand, Silence}
 use Rattle.age.proofs.Logs.{refresh-of, toSent, toLog, toLog-append, toLog-length, sent-at, AllGood, no-more}
 use Rattle.age.proofs.Logs.{good-append, good-at}
 use Rattle.age.proofs.EachCall.{matches}
 
-reading-limit : (last : Timestamp) (t : ℕ) → isReading last t ≡ true → leb t lastReading ≡ true
-reading-limit Never t h = h
-reading-limit (At before) t h = and-right (leb before t) (leb t lastReading) h
+reading-limit : (g : Gateway) (t : ℕ) → isReading g t ≡ true → leb t lastReading ≡ true
+reading-limit g t h = and-right (leb (g .last) t) (leb t lastReading) h
 
 -- ---- one end of a run beside the endpoint of the CID
-record Side (d₀ : Device) (n : ℕ) (d : Device) (e : Endpoint) (took took′ : ℕ) : Type 0 where
+record Side (d₀ : Lent) (n : ℕ) (d : Lent) (e : Endpoint) (took took′ : ℕ) : Type 0 where
   like : Like d d₀
-  here : endpointAt (d .endpoints) n ≡ e
+  here : endpointAt d n ≡ e
   took-same : took ≡ took′
 
 -- a call at that end, and the one that does the same to the endpoint
-record Both (cid : ℕ) (slave : Bool) (m : ℕ) (d₀ : Device) (n : ℕ) (d : Device) (t room : ℕ) (c : Call)
+record Both (cid : ℕ) (slave : Bool) (m : ℕ) (d₀ : Lent) (n : ℕ) (d : Lent) (t room : ℕ) (c : Call)
     (sent : List Sent) (log : List L.Sent)
     (e : Endpoint) (took took′ : ℕ) : Type 0 where
   by : S.Call
-  side : Side d₀ n (callIn d t room c .device) (S.callOf e t by .endpoint)
+  side : Side d₀ n (callIn d t room c .lent) (S.callOf e t by .endpoint)
       (tookBy cid sent c (isDone (callIn d t room c .answer)) took)
       (L.tookBy log by (S.callOf e t by .answer) took′)
   logs : logged cid slave m c (callIn d t room c .writes) ≡ toLog
@@ -62,16 +59,16 @@ record Both (cid : ℕ) (slave : Bool) (m : ℕ) (d₀ : Device) (n : ℕ) (d : 
       ≡ L.shownBy slave m took′ (length log) by (S.callOf e t by .endpoint)
   may : L.mayDeliver log by ≡ true
 
-one-step : (cid : ℕ) (slave : Bool) (m : ℕ) (d₀ : Device) (n : ℕ) → Table d₀ cid n
-    → (d : Device) (t room : ℕ) (c : Call) (sent : List Sent)
+one-step : (cid : ℕ) (slave : Bool) (m : ℕ) (d₀ : Lent) (n : ℕ) → Table d₀ cid n
+    → (d : Lent) (t room : ℕ) (c : Call) (sent : List Sent)
     (log : List L.Sent) (e : Endpoint) (took took′ : ℕ)
     → Side d₀ n d e took took′ → sent ≡ toLog log → AllGood cid log
-    → isReading (d .last) t ≡ true → mayDeliver cid sent c ≡ true
+    → isReading (d .gateway) t ≡ true → mayDeliver cid sent c ≡ true
     → Both cid slave m d₀ n d t room c sent log e took took′
 one-step cid slave m d₀ n T d t room c sent log e took took′ S q good reading may =
     subst (λ (x : ℕ). Both cid slave m d₀ n d t room c sent log e took x) (S .took-same)
     (subst (λ (x : Endpoint). Both cid slave m d₀ n d t room c sent log x took took) (S .here)
-    (subst (λ (x : List Sent). Both cid slave m d₀ n d t room c x log (endpointAt (d .endpoints) n) took took)
+    (subst (λ (x : List Sent). Both cid slave m d₀ n d t room c x log (endpointAt d n) took took)
     (sym q)
     (let M = matches cid slave m d₀ n T d (S .like) t room reading log good took (reach d t room c)
     (ap (λ (x : List Sent). mayDeliver cid x c) (sym q) ∙ may) in
@@ -84,16 +81,30 @@ one-step cid slave m d₀ n T d t room c sent log e took took′ S q good readin
       may = M .may;
     })))
 
-module _ (wm ws : List ℕ) (cid : ℕ) (hm : Holds wm cid false) (hs : Holds ws cid true) (clocks : L.Clocks) where
-  tm : Table (loadedOf wm .device) cid (hm .entry)
-  tm = loaded wm cid (hm .entry) (hm .done) (hm .there)
+module _ (wm ws : List ℕ) (rm rs : List Record) (cid : ℕ) (hm : Holds wm rm cid false) (hs : Holds ws rs cid true)
+    (clocks : L.Clocks) where
+  -- each end just loaded, and the place of the CID there
+  abbrev dm : Lent
+  dm = loadedOf wm rm .lent
 
-  ts : Table (loadedOf ws .device) cid (hs .entry)
-  ts = loaded ws cid (hs .entry) (hs .done) (hs .there)
+  abbrev ds : Lent
+  ds = loadedOf ws rs .lent
+
+  abbrev nm : ℕ
+  nm = placeOf cid dm
+
+  abbrev ns : ℕ
+  ns = placeOf cid ds
+
+  tm : Table dm cid nm
+  tm = loaded-table wm rm cid (hm .done) (hm .there)
+
+  ts : Table ds cid ns
+  ts = loaded-table ws rs cid (hs .done) (hs .there)
 
   record Sim (l : Run) (x : L.Link) : Type 0 where
-    sideM : Side (loadedOf wm .device) (hm .entry) (l .master) (x .master) (l .masterTook) (x .masterTook)
-    sideS : Side (loadedOf ws .device) (hs .entry) (l .slave) (x .slave) (l .slaveTook) (x .slaveTook)
+    sideM : Side dm nm (l .master) (x .master) (l .masterTook) (x .masterTook)
+    sideS : Side ds ns (l .slave) (x .slave) (l .slaveTook) (x .slaveTook)
     log : l .log ≡ toLog (x .log)
     good : AllGood cid (x .log)
     shows : l .shows ≡ x .shows
@@ -130,14 +141,13 @@ module _ (wm ws : List ℕ) (cid : ℕ) (hm : Holds wm cid false) (hs : Holds ws
     sim : Sim l′ (L.afterEvent clocks x event)
 
   abbrev called : Run → Bool → ℕ → ℕ → Call → Run
-  called l slave t room c = afterCall cid clocks l slave t c (callIn (deviceAt l slave) t room c)
+  called l slave t room c = afterCall cid clocks l slave t c (callIn (lentAt l slave) t room c)
 
   next : (l : Run) (x : L.Link) (slave : Bool) (t room : ℕ) (c : Call) → Sim l x
       → isAccepted l slave t ≡ true → called l slave t room c .allowed ≡ true → Next (called l slave t room c) x
   next l x false t room c S reading h =
       let kv = kept l false t c (callIn (l .master) t room c) h in
-      let B = one-step cid false (L.momentOf clocks false t) (loadedOf wm .device) (hm .entry) tm (l .master) t room c (l .log)
-      (x .log) (x .master)
+      let B = one-step cid false (L.momentOf clocks false t) dm nm tm (l .master) t room c (l .log) (x .log) (x .master)
       (l .masterTook) (x .masterTook) (S .sideM) (S .log) (S .good) reading (kv .may) in
       record {
         event = record { slave = false; clock = t; call = B .by };
@@ -148,13 +158,12 @@ module _ (wm ws : List ℕ) (cid : ℕ) (hm : Holds wm cid false) (hs : Holds ws
           good = good-append cid (S .good) (B .good);
           shows = ap₂ _++_ (S .shows) (B .shows);
           latest = refl;
-          allowed = still-allowed l x false t c (B .by) S kv (B .may) (reading-limit (l .master .last) t reading);
+          allowed = still-allowed l x false t c (B .by) S kv (B .may) (reading-limit (l .master .gateway) t reading);
         };
       }
   next l x true t room c S reading h =
       let kv = kept l true t c (callIn (l .slave) t room c) h in
-      let B = one-step cid true (L.momentOf clocks true t) (loadedOf ws .device) (hs .entry) ts (l .slave) t room c (l .log)
-      (x .log) (x .slave)
+      let B = one-step cid true (L.momentOf clocks true t) ds ns ts (l .slave) t room c (l .log) (x .log) (x .slave)
       (l .slaveTook) (x .slaveTook) (S .sideS) (S .log) (S .good) reading (kv .may) in
       record {
         event = record { slave = true; clock = t; call = B .by };
@@ -165,7 +174,7 @@ module _ (wm ws : List ℕ) (cid : ℕ) (hm : Holds wm cid false) (hs : Holds ws
           good = good-append cid (S .good) (B .good);
           shows = ap₂ _++_ (S .shows) (B .shows);
           latest = refl;
-          allowed = still-allowed l x true t c (B .by) S kv (B .may) (reading-limit (l .slave .last) t reading);
+          allowed = still-allowed l x true t c (B .by) S kv (B .may) (reading-limit (l .slave .gateway) t reading);
         };
       }
 
@@ -197,7 +206,7 @@ module _ (wm ws : List ℕ) (cid : ℕ) (hm : Holds wm cid false) (hs : Holds ws
   -- a load is not allowed
   step : (l : Run) (slave : Bool) (s : Step) → Lifted l → afterStep cid clocks l slave s .allowed ≡ true
       → Lifted (afterStep cid clocks l slave s)
-  step l slave (load ws) L₀ h = absurd (false≢true h)
+  step l slave (load list slice) L₀ h = absurd (false≢true h)
   step l slave (call t room c) L₀ h =
       bcase (isAccepted l slave t)
       (λ q.
@@ -210,11 +219,12 @@ module _ (wm ws : List ℕ) (cid : ℕ) (hm : Holds wm cid false) (hs : Holds ws
       }))
       (λ q. subst Lifted (sym (left-out l slave t room c q)) L₀)
 
-  allowed-first : (l : Run) (slave : Bool) (s : Step) → afterStep cid clocks l slave s .allowed ≡ true → l .allowed ≡ true
-  allowed-first l slave (load ws) h = absurd (false≢true h)
+  allowed-first : (l : Run) (slave : Bool) (s : Step) → afterStep cid clocks l slave s .allowed ≡ true
+      → l .allowed ≡ true
+  allowed-first l slave (load list slice) h = absurd (false≢true h)
   allowed-first l slave (call t room c) h =
       bcase (isAccepted l slave t)
-      (λ q. kept l slave t c (callIn (deviceAt l slave) t room c)
+      (λ q. kept l slave t c (callIn (lentAt l slave) t room c)
       (ap (λ (r : Run). r .allowed) (sym (counts l slave t room c q)) ∙ h) .before)
       (λ q. ap (λ (r : Run). r .allowed) (sym (left-out l slave t room c q)) ∙ h)
 
@@ -224,14 +234,15 @@ module _ (wm ws : List ℕ) (cid : ℕ) (hm : Holds wm cid false) (hs : Holds ws
   allowed-before l (v ∷ vs) h =
       allowed-first l (v .slave) (v .step) (allowed-before (afterStep cid clocks l (v .slave) (v .step)) vs h)
 
-  along : (l : Run) (vs : List Event) → Lifted l → afterAll cid clocks l vs .allowed ≡ true → Lifted (afterAll cid clocks l vs)
+  along : (l : Run) (vs : List Event) → Lifted l → afterAll cid clocks l vs .allowed ≡ true
+      → Lifted (afterAll cid clocks l vs)
   unfolding afterAll
   along l [] L₀ h = L₀
   along l (v ∷ vs) L₀ h =
       let l′ = afterStep cid clocks l (v .slave) (v .step) in
       along l′ vs (step l (v .slave) (v .step) L₀ (allowed-before l′ vs h)) h
 
-  at-first : Lifted (begun (loadedOf wm .device) (loadedOf ws .device))
+  at-first : Lifted (begun dm ds)
   unfolding toLog sm ss
   at-first = record {
     events = [];
@@ -250,7 +261,7 @@ module _ (wm ws : List ℕ) (cid : ℕ) (hm : Holds wm cid false) (hs : Holds ws
   unfolding sm ss
   paired = record { master = hm .role; slave = hs .role; ticksM = tm .ticks; ticksS = ts .ticks }
 
-  -- ---- what holds of the endpoints' list holds of the devices'
+  -- ---- what holds of the endpoints' list holds of the gateways'
   module _ (l : Run) (x : L.Link) (S : Sim l x) (A : F.Fresh sm ss x) where
     longs : length (x .log) ≡ length (l .log)
     longs = sym (toLog-length (x .log)) ∙ ap length (sym (S .log))
@@ -286,20 +297,21 @@ module _ (wm ws : List ℕ) (cid : ℕ) (hm : Holds wm cid false) (hs : Holds ws
           → L.showAt z i .sent ≤ L.showAt z j .sent) (sym (S .shows)) (λ h e. A .in-order i j a h e);
     }
 
-  lifted : (vs : List Event) → runOf wm ws cid clocks vs .allowed ≡ true → Fresh cid sm ss (runOf wm ws cid clocks vs)
+  lifted : (vs : List Event) → runOf wm rm ws rs cid clocks vs .allowed ≡ true
+      → Fresh cid sm ss (runOf wm rm ws rs cid clocks vs)
   lifted vs h =
-      let L₁ = along (begun (loadedOf wm .device) (loadedOf ws .device)) vs at-first h in
-      fresh (runOf wm ws cid clocks vs) (L.afterAll clocks (L.begun sm ss) (L₁ .events)) (L₁ .sim)
+      let L₁ = along (begun dm ds) vs at-first h in
+      fresh (runOf wm rm ws rs cid clocks vs) (L.afterAll clocks (L.begun sm ss) (L₁ .events)) (L₁ .sim)
       (age-theorem sm ss clocks (L₁ .events) paired (L₁ .sim .allowed))
 
 pub demand : Demand
 unfolding sm ss
-demand wm ws cid hm hs c vs h = lifted wm ws cid hm hs c vs h
+demand wm ws rm rs cid hm hs c vs h = lifted wm ws rm rs cid hm hs c vs h
 
 pub silence : Silence
-silence wm ws cid hm hs c vs slave last h quiet i k e =
-    let l = runOf wm ws cid c vs in
-    let A = demand wm ws cid hm hs c vs h in
+silence wm ws rm rs cid hm hs c vs slave last h quiet i k e =
+    let l = runOf wm rm ws rs cid c vs in
+    let A = demand wm ws rm rs cid hm hs c vs h in
     let y = L.showAt (l .shows) i in
     let r = A .there i k in
     let j : ℕ = y .sent - 1 in

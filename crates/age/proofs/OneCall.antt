@@ -1,15 +1,15 @@
--- One call on a device, seen from one CID's entry: some call on that endpoint does the same to it, and to what is
+-- One call on a gateway, seen from one CID's entry: some call on that endpoint does the same to it, and to what is
 -- written and shown of the CID.
 use mathlib.Core.Path.{_≡_, refl, sym, ap, subst, _∙_}
 use mathlib.Core.Bool.{Bool, true, false}
 use mathlib.Core.List.{List, [], _∷_}
 use mathlib.Core.Option.{Option}
-use Prim.Native.Nat.{ℕ}
+use Prim.Native.Nat.{ℕ, _<_}
 use lib.ListN.{length}
 use borrow.Author.Tests.{eq-eqb, ne-eqb}
 use Rattle.frame.specs.Reading.{readingOf}
 use Rattle.frame.specs.Writing.{frameBytes}
-use Rattle.endpoint.specs.declared.Endpoint.{Endpoint}
+use Rattle.endpoint.specs.Endpoint.{Endpoint}
 use Rattle.endpoint.specs.Answers.{isDone}
 use Rattle.endpoint.specs.Time.{afterTick}
 use Rattle.steps.specs.Frames.{Written, nothing, frame, value, bytesOf}
@@ -17,14 +17,12 @@ use Rattle.steps.specs.Calls.{Outcome}
 use Rattle.steps.specs.Steps as S
 use Rattle.steps.specs.Laws.{Carries}
 use Rattle.steps.proofs.Dispatch.{cond-true, cond-false}
-use Rattle.device.specs.declared.Device.{Device}
-use Rattle.device.specs.Tables.{endpointAt}
-use Rattle.device.specs.Clock.{isReading, clockStep, afterClock}
-use Rattle.device.specs.Calls.{Result}
+use Rattle.gateway.specs.Tables.{Lent, endpointAt, isReading, clockStep, afterClock}
+use Rattle.gateway.specs.Calls.{Result}
 use Rattle.link.specs.Runs as L
 use Rattle.runs.specs.Steps.{Call, callIn}
 use Rattle.runs.specs.Bus.{onBus, isFrameOf}
-use Rattle.runs.proofs.Tables.{Like, like-tick, ticked-at}
+use Rattle.runs.proofs.Tables.{Whole, Like, like-tick, ticked-at}
 use Rattle.runs.proofs.Idle.{idle-at}
 use Rattle.age.specs.Runs.{sent, lentTo, logged, tookBy, showsValue, shownBy}
 use Rattle.age.proofs.Logs.{frame-of, toSent, toLog, AllGood, no-more, and-more}
@@ -69,25 +67,24 @@ own-good cid slave m by x (frame f body) c q =
 own-good cid slave m by x (value bytes) c q = no-more
 
 -- the call that does the same to the endpoint at n
-pub record Matches (cid : ℕ) (slave : Bool) (m : ℕ) (d : Device) (n t room : ℕ) (log : List L.Sent) (took : ℕ)
+pub record Matches (cid : ℕ) (slave : Bool) (m : ℕ) (d : Lent) (n t room : ℕ) (log : List L.Sent) (took : ℕ)
     (call : Call) : Type 0 where
   pub by : S.Call
-  pub endpoint : endpointAt (callIn d t room call .device .endpoints) n
-      ≡ S.callOf (endpointAt (d .endpoints) n) t by .endpoint
+  pub endpoint : endpointAt (callIn d t room call .lent) n ≡ S.callOf (endpointAt d n) t by .endpoint
   pub logs : logged cid slave m call (callIn d t room call .writes)
-      ≡ toLog (L.logged slave m by (S.callOf (endpointAt (d .endpoints) n) t by .writes))
-  pub good : AllGood cid (L.logged slave m by (S.callOf (endpointAt (d .endpoints) n) t by .writes))
+      ≡ toLog (L.logged slave m by (S.callOf (endpointAt d n) t by .writes))
+  pub good : AllGood cid (L.logged slave m by (S.callOf (endpointAt d n) t by .writes))
   pub shows : shownBy cid slave d m took (length log) call (callIn d t room call)
-      ≡ L.shownBy slave m took (length log) by (S.callOf (endpointAt (d .endpoints) n) t by .endpoint)
+      ≡ L.shownBy slave m took (length log) by (S.callOf (endpointAt d n) t by .endpoint)
   pub takes : tookBy cid (toLog log) call (isDone (callIn d t room call .answer)) took
-      ≡ L.tookBy log by (S.callOf (endpointAt (d .endpoints) n) t by .answer) took
+      ≡ L.tookBy log by (S.callOf (endpointAt d n) t by .answer) took
   pub may : L.mayDeliver log by ≡ true
-  pub like : Like (callIn d t room call .device) d
+  pub like : Like (callIn d t room call .lent) d
 
-pub clocked : (d : Device) (t : ℕ) → isReading (d .last) t ≡ true → afterClock t d ≡ clockStep t d
-clocked d t reading = cond-true (isReading (d .last) t) (clockStep t d) d reading
+pub clocked : (d : Lent) (t : ℕ) → isReading (d .gateway) t ≡ true → Whole d → afterClock t d ≡ clockStep t d
+clocked d t reading whole = rw (reading, whole)
 
-module _ (cid : ℕ) (slave : Bool) (m : ℕ) (d : Device) (n t room : ℕ) (log : List L.Sent) (took : ℕ) where
+module _ (cid : ℕ) (slave : Bool) (m : ℕ) (d : Lent) (n t room : ℕ) (log : List L.Sent) (took : ℕ) where
   abbrev Match : Call → Type 0
   Match call = Matches cid slave m d n t room log took call
 
@@ -99,15 +96,15 @@ module _ (cid : ℕ) (slave : Bool) (m : ℕ) (d : Device) (n t room : ℕ) (log
 
   -- the endpoint took the clock step only, and nothing of the CID was written, shown or taken
   pub idle : (call : Call)
-      → endpointAt (callIn d t room call .device .endpoints) n ≡ afterTick (endpointAt (d .endpoints) n) t
+      → endpointAt (callIn d t room call .lent) n ≡ afterTick (endpointAt d n) t
       → isFrameOf cid (onBus (callIn d t room call .writes)) ≡ false
       → showsValue cid d call (callIn d t room call) ≡ false
       → tookBy cid (toLog log) call (isDone (callIn d t room call .answer)) took ≡ took
-      → Like (callIn d t room call .device) d
+      → Like (callIn d t room call .lent) d
       → Match call
   unfolding toLog
   idle call en fr sh to li =
-      let e = endpointAt (d .endpoints) n in
+      let e = endpointAt d n in
       let i = idle-at e t in
       let r = callIn d t room call in
       let k = S.act (i .by) in
@@ -125,12 +122,12 @@ module _ (cid : ℕ) (slave : Bool) (m : ℕ) (d : Device) (n t room : ℕ) (log
       }
 
   -- the same of a call that left what the clock step leaves
-  pub only-clock : (call : Call)
-      → callIn d t room call .device ≡ clockStep t d
+  pub only-clock : (call : Call) → Whole d → n < d .gateway .count
+      → callIn d t room call .lent ≡ clockStep t d
       → isFrameOf cid (onBus (callIn d t room call .writes)) ≡ false
       → showsValue cid d call (callIn d t room call) ≡ false
       → tookBy cid (toLog log) call (isDone (callIn d t room call .answer)) took ≡ took
       → Match call
-  only-clock call q fr sh to =
-      idle call (ap (λ (x : Device). endpointAt (x .endpoints) n) q ∙ ticked-at d t n) fr sh to
-      (subst (λ (x : Device). Like x d) (sym q) (like-tick d t))
+  only-clock call w l q fr sh to =
+      idle call (ap (λ (x : Lent). endpointAt x n) q ∙ ticked-at d t n w l) fr sh to
+      (subst (λ (x : Lent). Like x d) (sym q) (like-tick d t))

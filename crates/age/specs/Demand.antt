@@ -1,4 +1,4 @@
--- Demand 3: for two devices just loaded that hold one CID, every value shown has its send, in order, and is not too
+-- Demand 3: for two gateways just loaded that hold one CID, every value shown has its send, in order, and is not too
 -- old.
 use mathlib.Core.Path.{_≡_}
 use mathlib.Core.Bool.{Bool, true, false, not, cond}
@@ -8,24 +8,27 @@ use Prim.Native.Nat.{ℕ, suc, _+_, _≤_, _<_}
 use lib.ListN.{length}
 use Rattle.endpoint.specs.declared.Settings.{Settings}
 use Rattle.endpoint.specs.declared.Answer.the-variants.{Done}
-use Rattle.device.specs.declared.Entry.the-variants.{At}
-use Rattle.device.specs.Tables.{endpointAt, entryOf}
-use Rattle.device.specs.Loading.{loadedOf}
+use Rattle.records.specs.declared.Record.{Record}
+use Rattle.gateway.specs.Tables.{Lent, endpointAt, isEntry, placeOf}
+use Rattle.gateway.specs.Loading.{loadedOf}
 use Rattle.link.specs.Runs.{Clocks, Show, showAt}
 use Rattle.link.specs.Fresh.{boundOf}
 use Rattle.runs.specs.Bus.{isRefreshOf}
 use Rattle.age.specs.Runs.{Event, Sent, sentAt, Run, afterAll, begun}
 
--- loaded with answer 0, a device holds the CID at an entry, as the slave or as the master
-pub record Holds (list : List ℕ) (cid : ℕ) (slave : Bool) : Type 0 where
-  pub done : loadedOf list .answer ≡ Done
-  pub entry : ℕ
-  pub there : entryOf cid (loadedOf list .device .count) (loadedOf list .device .endpoints) ≡ At entry
-  pub role : endpointAt (loadedOf list .device .endpoints) entry .settings .slave ≡ slave
-
 -- the settings of the CID's entry
-abbrev pub settingsIn : {list : List ℕ} {cid : ℕ} {slave : Bool} → Holds list cid slave → Settings
-settingsIn {list = list} h = endpointAt (loadedOf list .device .endpoints) (h .entry) .settings
+abbrev pub settingsFor : ℕ → Lent → Settings
+settingsFor cid d = endpointAt d (placeOf cid d) .settings
+
+-- loaded with answer 0 into some slice of records, a gateway holds the CID at an entry, as the slave or as the master
+pub record Holds (list : List ℕ) (records : List Record) (cid : ℕ) (slave : Bool) : Type 0 where
+  pub done : loadedOf list records .answer ≡ Done
+  pub there : isEntry (loadedOf list records .lent) (placeOf cid (loadedOf list records .lent)) ≡ true
+  pub role : settingsFor cid (loadedOf list records .lent) .slave ≡ slave
+
+abbrev pub settingsIn : {list : List ℕ} {records : List Record} {cid : ℕ} {slave : Bool}
+    → Holds list records cid slave → Settings
+settingsIn {list = list} {records = records} {cid = cid} h = settingsFor cid (loadedOf list records .lent)
 
 -- the send of a show: by the other end, an S-Refresh of the CID, lent the value shown, and not too old
 pub record ItsSend (cid bound : ℕ) (x : Show) (w : Sent) : Type 0 where
@@ -47,15 +50,16 @@ pub record Fresh (cid : ℕ) (sm ss : Settings) (l : Run) : Type 0 where
   pub in-order : (i j : ℕ) → i < j → j < length (l .shows) → showAt (l .shows) i .slave ≡ showAt (l .shows) j .slave
       → showAt (l .shows) i .sent ≤ showAt (l .shows) j .sent
 
--- two devices just loaded, after a list of calls
-abbrev pub runOf : List ℕ → List ℕ → ℕ → Clocks → List Event → Run
-runOf wm ws cid c vs = afterAll cid c (begun (loadedOf wm .device) (loadedOf ws .device)) vs
+-- two gateways just loaded, after a list of calls
+abbrev pub runOf : List ℕ → List Record → List ℕ → List Record → ℕ → Clocks → List Event → Run
+runOf wm rm ws rs cid c vs = afterAll cid c (begun (loadedOf wm rm .lent) (loadedOf ws rs .lent)) vs
 
 -- demand 3, for every list that keeps to what it runs over
 abbrev pub Demand : Type 0
-Demand = (wm ws : List ℕ) (cid : ℕ) (hm : Holds wm cid false) (hs : Holds ws cid true) (c : Clocks) (vs : List Event)
-    → runOf wm ws cid c vs .allowed ≡ true
-    → Fresh cid (settingsIn hm) (settingsIn hs) (runOf wm ws cid c vs)
+Demand = (wm ws : List ℕ) (rm rs : List Record) (cid : ℕ) (hm : Holds wm rm cid false) (hs : Holds ws rs cid true)
+    (c : Clocks) (vs : List Event)
+    → runOf wm rm ws rs cid c vs .allowed ≡ true
+    → Fresh cid (settingsIn hm) (settingsIn hs) (runOf wm rm ws rs cid c vs)
 
 -- an end has written no S-Refresh of the CID after a moment
 abbrev pub SilentSince : ℕ → Bool → ℕ → Run → Type 0
@@ -65,9 +69,10 @@ SilentSince cid slave last l =
 
 -- then every show at the other end that is not fail-safe comes within the bound after it
 abbrev pub Silence : Type 0
-Silence = (wm ws : List ℕ) (cid : ℕ) (hm : Holds wm cid false) (hs : Holds ws cid true) (c : Clocks) (vs : List Event)
-    (slave : Bool) (last : ℕ)
-    → runOf wm ws cid c vs .allowed ≡ true
-    → SilentSince cid (not slave) last (runOf wm ws cid c vs)
-    → (i : ℕ) → i < length (runOf wm ws cid c vs .shows) → showAt (runOf wm ws cid c vs .shows) i .slave ≡ slave
-    → showAt (runOf wm ws cid c vs .shows) i .moment ≤ last + boundOf (cond slave (settingsIn hs) (settingsIn hm))
+Silence = (wm ws : List ℕ) (rm rs : List Record) (cid : ℕ) (hm : Holds wm rm cid false) (hs : Holds ws rs cid true)
+    (c : Clocks) (vs : List Event) (slave : Bool) (last : ℕ)
+    → runOf wm rm ws rs cid c vs .allowed ≡ true
+    → SilentSince cid (not slave) last (runOf wm rm ws rs cid c vs)
+    → (i : ℕ) → i < length (runOf wm rm ws rs cid c vs .shows)
+    → showAt (runOf wm rm ws rs cid c vs .shows) i .slave ≡ slave
+    → showAt (runOf wm rm ws rs cid c vs .shows) i .moment ≤ last + boundOf (cond slave (settingsIn hs) (settingsIn hm))

@@ -1,3 +1,3 @@
--- Two devices and the bytes between them, in reading order.
+-- Two gateways and the bytes between them, in reading order.
 pub mod Runs
 pub mod Demand

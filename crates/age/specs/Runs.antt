@@ -1,19 +1,17 @@
--- Two devices over a list of calls, to be read beside document 01, "What demand 3 runs over": its sentences stand here
--- in their order, each above what says it. All is for one CID that both devices hold.
+-- Two gateways over a list of calls, to be read beside document 01, "What demand 3 runs over": its sentences stand here
+-- in their order, each above what says it; its devices are gateways. All is for one CID that both hold.
 use mathlib.Core.Bool.{Bool, true, false, _&&_, _||_, not, cond, Bool·beq}
 use mathlib.Core.List.{List, [], _∷_, _++_}
 use mathlib.Core.Option.{Option, some, none}
 use Prim.Native.Nat.{ℕ, suc}
-use lib.Dec.{leb}
+use lib.Dec.{eqb, leb}
 use lib.ListN.{length, getD}
 use Rattle.words.specs.Bytes.{same}
 use Rattle.endpoint.specs.Answers.{isDone}
 use Rattle.steps.specs.Frames.{Written, bytesOf}
-use Rattle.device.specs.declared.Device.{Device}
-use Rattle.device.specs.Tables.{entryOf}
-use Rattle.device.specs.Clock.{isReading}
-use Rattle.device.specs.Calls.{Result}
-use Rattle.runs.specs.Steps.{Call, act, send, deliver, show, Step, load, call, callIn, isAt}
+use Rattle.gateway.specs.Tables.{Lent, placeOf, isReading}
+use Rattle.gateway.specs.Calls.{Result}
+use Rattle.runs.specs.Steps.{Call, act, send, deliver, show, Step, load, call, callIn}
 use Rattle.runs.specs.Bus.{onBus, isFrameOf, isRefreshOf}
 use Rattle.link.specs.Runs.{Clocks, momentOf, Show, shown}
 
@@ -36,8 +34,9 @@ unfoldable pub sentAt : List Sent → ℕ → Sent
 sentAt l i = getD l i noSent
 
 pub record Run : Type 0 where
-  pub master : Device
-  pub slave : Device
+  -- each end's gateway and slice of records
+  pub master : Lent
+  pub slave : Lent
   -- the frames of the CID that were written, oldest first
   pub log : List Sent
   -- the done shows of the CID's entry that were not fail-safe, oldest first
@@ -52,7 +51,7 @@ pub record Run : Type 0 where
 
 -- ---- "Two devices, just loaded with answer 0, hold one common CID, one as master, the other as slave, beside
 -- whatever others." How they hold it is Holds in Demand.
-abbrev pub begun : Device → Device → Run
+abbrev pub begun : Lent → Lent → Run
 begun dm ds = record {
   master = dm;
   slave = ds;
@@ -66,7 +65,7 @@ begun dm ds = record {
 
 -- ---- "The list has any calls but load on either, for whatever entry, refused ones and kinds that a later paper adds
 -- included."
--- a step at the slave's device or the master's
+-- a step at the slave's gateway or the master's
 pub record Event : Type 0 where
   pub slave : Bool
   pub step : Step
@@ -84,13 +83,15 @@ notAllowed l = record {
   allowed = false;
 }
 
--- ---- "Each call gets its device as that device's last call returned it; nobody else writes it meanwhile."
-abbrev pub deviceAt : Run → Bool → Device
-deviceAt l slave = cond slave (l .slave) (l .master)
+-- ---- "Each call gets its device as that device's last call returned it; nobody else writes it meanwhile." Document
+-- 02, note 11: "The age promise counts on the slice being lent whole each time and as the last call left it." A run has
+-- each end's slice beside its gateway, and a call gets both as they stand there.
+abbrev pub lentAt : Run → Bool → Lent
+lentAt l slave = cond slave (l .slave) (l .master)
 
--- the device at an end, after a call at the slave's device or the master's
-abbrev pub deviceAfter : Bool → Run → Bool → Result → Device
-deviceAfter end l slave r = cond (Bool·beq end slave) (r .device) (deviceAt l end)
+-- what an end has after a call at the slave's gateway or the master's
+abbrev pub lentAfter : Bool → Run → Bool → Result → Lent
+lentAfter end l slave r = cond (Bool·beq end slave) (r .lent) (lentAt l end)
 
 -- ---- "A call's moment is its reading at the master, its reading plus D at the slave, D one whole number for the
 -- list." This is momentOf in crates/link/specs/Runs.antt.
@@ -100,7 +101,7 @@ deviceAfter end l slave r = cond (Bool·beq end slave) (r .device) (deviceAt l e
 -- number 1 is given where this is false; so no call that counts has its own clock past the limit, and the other's is
 -- not asked
 abbrev pub isAccepted : Run → Bool → ℕ → Bool
-isAccepted l slave t = isReading (deviceAt l slave .last) t
+isAccepted l slave t = isReading (lentAt l slave .gateway) t
 
 -- m, a call's moment, is not before the last call's
 abbrev pub neverFalls : Run → ℕ → Bool
@@ -137,12 +138,12 @@ mayDeliver cid l (show n) = true
 -- ---- "A done show of this CID's entry that is not fail-safe has its send: one by the other end, earlier in the list,
 -- that wrote the frame of the showing end's last done deliver of S-Refresh on this CID before the show."
 -- a done show of the CID's entry that is not fail-safe
-abbrev pub showsValue : ℕ → Device → Call → Result → Bool
+abbrev pub showsValue : ℕ → Lent → Call → Result → Bool
 showsValue cid d (act a n) r = false
 showsValue cid d (send n value) r = false
 showsValue cid d (deliver s) r = false
 showsValue cid d (show n) r =
-    isAt (entryOf cid (d .count) (d .endpoints)) n && (isDone (r .answer) && not (r .failsafe))
+    eqb (placeOf cid d) n && (isDone (r .answer) && not (r .failsafe))
 
 -- the frame of an end's last done deliver of S-Refresh on this CID, by one more than its place in the log: this call's,
 -- or the one before
@@ -160,7 +161,7 @@ tookAfter end cid l slave c r =
     cond (Bool·beq end slave) (tookBy cid (l .log) c (isDone (r .answer)) (tookAt l end)) (tookAt l end)
 
 -- the show: at which end, when, the bytes, that place, and how many frames had been written
-abbrev pub shownBy : ℕ → Bool → Device → ℕ → ℕ → ℕ → Call → Result → List Show
+abbrev pub shownBy : ℕ → Bool → Lent → ℕ → ℕ → ℕ → Call → Result → List Show
 shownBy cid slave d m took n c r =
     cond (showsValue cid d c r) (shown slave m (bytesOf (r .writes)) took n ∷ []) []
 
@@ -170,10 +171,10 @@ abbrev pub afterCall : ℕ → Clocks → Run → Bool → ℕ → Call → Resu
 afterCall cid clocks l slave t c r =
     let m = momentOf clocks slave t in
     record {
-      master = deviceAfter false l slave r;
-      slave = deviceAfter true l slave r;
+      master = lentAfter false l slave r;
+      slave = lentAfter true l slave r;
       log = l .log ++ logged cid slave m c (r .writes);
-      shows = l .shows ++ shownBy cid slave (deviceAt l slave) m (tookAt l slave) (length (l .log)) c r;
+      shows = l .shows ++ shownBy cid slave (lentAt l slave) m (tookAt l slave) (length (l .log)) c r;
       masterTook = tookAfter false cid l slave c r;
       slaveTook = tookAfter true cid l slave c r;
       latest = m;
@@ -182,9 +183,9 @@ afterCall cid clocks l slave t c r =
 
 -- a call given 1 is left out
 abbrev pub afterStep : ℕ → Clocks → Run → Bool → Step → Run
-afterStep cid clocks l slave (load ws) = notAllowed l
+afterStep cid clocks l slave (load ws rs) = notAllowed l
 afterStep cid clocks l slave (call t room c) =
-    cond (isAccepted l slave t) (afterCall cid clocks l slave t c (callIn (deviceAt l slave) t room c)) l
+    cond (isAccepted l slave t) (afterCall cid clocks l slave t c (callIn (lentAt l slave) t room c)) l
 
 unfoldable pub afterAll : ℕ → Clocks → Run → List Event → Run
 afterAll cid clocks l [] = l

@@ -1,1 +1,1 @@
-// Two devices that hold one common CID, over a list of calls: definitions and theorems, no code.
+// Two gateways that hold one common CID, over a list of calls: definitions and theorems, no code.

@@ -2,8 +2,9 @@
 -- definitions give beside what the papers state.
 use mathlib.Core.Path.{_≡_}
 use mathlib.Core.Bool.{Bool, true, false, not, cond}
-use mathlib.Core.List.{List, [], _∷_, map}
-use Prim.Native.Nat.{ℕ, suc, _/_, _%_}
+use mathlib.Core.List.{List, [], _∷_, _++_, map}
+use Prim.Native.Nat.{ℕ, zero, suc, _+_, _-_, _/_, _%_}
+use lib.Dec.{eqb}
 use lib.ListN.{length, replicate}
 use Rattle.frame.specs.declared.Command.{Command}
 use Rattle.frame.specs.declared.Command.the-variants as K
@@ -11,7 +12,7 @@ use Rattle.frame.specs.declared.Fields.{Fields}
 use Rattle.words.specs.Words.{wordAt, wordBytes}
 use Rattle.frame.specs.Control.{controlOf}
 use Rattle.frame.specs.Reading as Reader
-use Rattle.frame.specs.Writing.{headBytes, withCheckWord, twice}
+use Rattle.frame.specs.Writing.{headBytes, withCheckWord, twice, frameBytes}
 use Rattle.endpoint.specs.declared.Settings.{Settings}
 use Rattle.endpoint.specs.declared.State.{State}
 use Rattle.endpoint.specs.declared.State.the-variants.{Close, Starting, EstablishPending, Establish, ParamVerify}
@@ -20,7 +21,7 @@ use Rattle.endpoint.specs.declared.Timestamp.{Timestamp}
 use Rattle.endpoint.specs.declared.Timestamp.the-variants.{Never, At}
 use Rattle.endpoint.specs.declared.Pending.{Pending}
 use Rattle.endpoint.specs.declared.Pending.the-variants.{Nothing, Asked}
-use Rattle.endpoint.specs.declared.Endpoint.{Endpoint}
+use Rattle.endpoint.specs.Endpoint.{Endpoint}
 use Rattle.endpoint.specs.Answers.{numberOf}
 use Rattle.endpoint.specs.Table.{rowOf}
 use Rattle.endpoint.specs.Updates.{inState, timedFrom, withTimestamps, withSetup, withPending, withRequests}
@@ -32,11 +33,13 @@ use Rattle.steps.specs.Calls.{Outcome, startOf, restartOf, sendOf, stopOf}
 use Rattle.steps.specs.Deliveries.{deliverOf}
 use Rattle.settings.specs.Words.{settingsOf}
 use Rattle.settings.specs.Lists.{settingsAt}
-use Rattle.device.specs.declared.Device.{Device}
-use Rattle.device.specs.declared.Entry as Entries
-use Rattle.device.specs.declared.Entry.the-variants as Places
-use Rattle.device.specs.Tables.{noSettings, endpointAt, deviceOf, unloaded}
-use Rattle.device.specs.Calls.{Result, showIn, deliverIn}
+use Rattle.records.specs.declared.Record.{Record}
+use Rattle.records.specs.Records.{endpointOf, recordOf}
+use Rattle.gateway.specs.declared.Gateway.{Gateway}
+use Rattle.gateway.specs.Tables.{Lent, lent, blankRecord, endpointAt, atClock}
+use Rattle.gateway.specs.Loading.{loadedWith, loadedOf}
+use Rattle.gateway.specs.Calls as Entries
+use Rattle.gateway.specs.Calls.{Result, startIn, sendIn, stopIn, restartIn, setNotReadyIn, showIn, deliverIn}
 
 -- master 1/2, slave 1/3, one word each way, I = 100, R = 50, A = 50: kinds 1 to 7
 abbrev listOf : ℕ → List ℕ
@@ -78,9 +81,13 @@ pendingOf Nothing = 0
 pendingOf (Asked s) = s
 
 -- an entry, counted from 1
-abbrev placeOf : Entries.Entry → ℕ
-placeOf Places.Absent = 0
-placeOf (Places.At n) = suc n
+abbrev ordinalOf : Entries.Entry → ℕ
+ordinalOf Entries.Absent = 0
+ordinalOf (Entries.At n) = suc n
+
+-- the last reading
+abbrev lastIn : Gateway → ℕ
+lastIn g = g .last
 
 abbrev markOf : Result → ℕ
 markOf r = cond (r .failsafe) 1 0
@@ -154,11 +161,13 @@ abbrev refreshed : Endpoint → ℕ → ℕ → ℕ → Outcome
 refreshed e t stamp w =
     deliverOf e t (sentFields K.Refresh (not (e .settings .slave)) cid stamp 0) (wordBytes w)
 
--- its number; the state, the timer's start, the last timestamp accepted and the word held that it leaves
+-- the state, the timer's start, the last timestamp accepted and the word held
+abbrev held : Endpoint → List ℕ
+held e = rowOf (e .state) ∷ e .since ∷ stampOf (e .timestamps .accepted) ∷ wordAt (e .value .bytes) 0 ∷ []
+
+-- its number; what it leaves
 abbrev taking : Outcome → List ℕ
-taking o =
-    numberOf (o .answer) ∷ rowOf (o .endpoint .state) ∷ o .endpoint .since
-    ∷ stampOf (o .endpoint .timestamps .accepted) ∷ wordAt (o .endpoint .value .bytes) 0 ∷ []
+taking o = numberOf (o .answer) ∷ held (o .endpoint)
 
 -- the master in Refresh since 1,040 that is handed the timestamp 1,120
 abbrev atMaster : ℕ → Outcome
@@ -172,29 +181,115 @@ first = refreshed (endpointIn slaveSettings Refresh 6150 6010 281474976705676) 6
 abbrev later : ℕ → Outcome
 later t = refreshed (first .endpoint) t 1200 0x01020304
 
--- the later one taken at 6,230, on a device of this connection alone
-abbrev shownFrom : Device
-shownFrom = deviceOf (At 6230) 1 (later 6230 .endpoint ∷ replicate 7 (freshOf noSettings))
+-- the later one taken at 6,230: the timer has passed at 6,331
+abbrev inRefresh : Record
+inRefresh = recordOf (later 6230 .endpoint)
+
+-- a gateway of so many connections with that last reading, lent these records
+abbrev gatewayOf : ℕ → List Record → Lent
+gatewayOf count rs = lent (atClock 6230 (loadedWith count)) rs
+
+-- of this connection alone
+abbrev shownFrom : Lent
+shownFrom = gatewayOf 1 (inRefresh ∷ [])
+
+-- a gateway never loaded, and no records
+abbrev unloaded : Lent
+unloaded = lent (loadedWith 0) []
 
 abbrev stateIn : Result → ℕ
-stateIn r = rowOf (endpointAt (r .device .endpoints) 0 .state)
+stateIn r = rowOf (endpointAt (r .lent) 0 .state)
 
 -- a show there: its number, entry, count, mark and the word shown; the state that it leaves
 abbrev showing : ℕ → ℕ → List ℕ
 showing t room =
     let r = showIn shownFrom t room 0 in
     let s = bytesOf (r .writes) in
-    numberOf (r .answer) ∷ placeOf (r .entry) ∷ length s ∷ markOf r ∷ wordAt s 0 ∷ stateIn r ∷ []
+    numberOf (r .answer) ∷ ordinalOf (r .entry) ∷ length s ∷ markOf r ∷ wordAt s 0 ∷ stateIn r ∷ []
 
 -- a delivery of these bytes: its number, entry and count; the last reading and the state that it leaves
-abbrev delivering : Device → ℕ → ℕ → List ℕ → List ℕ
+abbrev delivering : Lent → ℕ → ℕ → List ℕ → List ℕ
 delivering d t room s =
     let r = deliverIn d t room s in
-    numberOf (r .answer) ∷ placeOf (r .entry) ∷ length (bytesOf (r .writes)) ∷ stampOf (r .device .last) ∷ stateIn r ∷ []
+    numberOf (r .answer) ∷ ordinalOf (r .entry) ∷ length (bytesOf (r .writes)) ∷ lastIn (r .lent .gateway)
+    ∷ stateIn r ∷ []
 
 -- a cycle without a frame
-abbrev emptyAt : Device → ℕ → ℕ → List ℕ
+abbrev emptyAt : Lent → ℕ → ℕ → List ℕ
 emptyAt d t room = delivering d t room []
+
+-- ---- the records that a gateway is lent (document 02, note 11)
+abbrev eachHeld : List Record → List ℕ
+eachHeld [] = []
+eachHeld (r ∷ rs) = held (endpointOf r) ++ eachHeld rs
+
+-- the last reading, the size of the table and each record
+abbrev leaving : Lent → List ℕ
+leaving d = lastIn (d .gateway) ∷ d .gateway .count ∷ eachHeld (d .records)
+
+-- a call: its number, entry, count and mark; what it leaves
+abbrev answering : Result → List ℕ
+answering r =
+    numberOf (r .answer) ∷ ordinalOf (r .entry) ∷ length (bytesOf (r .writes)) ∷ markOf r ∷ leaving (r .lent)
+
+-- one record of a table of two; both; one more than the table
+abbrev short : Lent
+short = gatewayOf 2 (inRefresh ∷ [])
+
+abbrev whole : Lent
+whole = gatewayOf 2 (inRefresh ∷ blankRecord ∷ [])
+
+abbrev longer : Lent
+longer = gatewayOf 1 (inRefresh ∷ inRefresh ∷ [])
+
+-- lent whole again after a call
+abbrev wholeAfter : Result → Lent
+wholeAfter r = lent (r .lent .gateway) (r .lent .records ++ (blankRecord ∷ []))
+
+-- an S-Refresh that is later than the one accepted, in bytes
+abbrev arrived : List ℕ
+arrived = frameBytes (sentFields K.Refresh false cid 1220 0) (wordBytes 0x090A0B0C)
+
+-- what is held of each record: as it was; with that S-Refresh taken at 6,240; ended; blank
+abbrev asItWas : List ℕ
+asItWas = rowOf Refresh ∷ 6230 ∷ 1200 ∷ 0x01020304 ∷ []
+
+abbrev renewed : List ℕ
+renewed = rowOf Refresh ∷ 6240 ∷ 1220 ∷ 0x090A0B0C ∷ []
+
+abbrev ended : List ℕ
+ended = rowOf Terminate ∷ 6230 ∷ 1200 ∷ 0 ∷ []
+
+abbrev blank : List ℕ
+blank = rowOf Close ∷ 0 ∷ 0 ∷ 0 ∷ []
+
+-- nothing changed of one record of two
+abbrev unchanged : ℕ → List ℕ
+unchanged number = number ∷ 0 ∷ 0 ∷ 0 ∷ 6230 ∷ 2 ∷ asItWas
+
+-- the clock step of 6,331 on both of two
+abbrev steppedTo : ℕ → ℕ → List ℕ
+steppedTo number entry = number ∷ entry ∷ 0 ∷ 0 ∷ 6331 ∷ 2 ∷ ended ++ blank
+
+-- n connections from the i-th on: master 1/i, slave 128/i
+abbrev connectionsFrom : ℕ → ℕ → List ℕ
+connectionsFrom i zero = []
+connectionsFrom i (suc n) =
+    (0x10000100 + i) ∷ (0x20008000 + i) ∷ 0x30000021 ∷ 0x40000014 ∷ 0x50000014 ∷ 0x60000014 ∷ 0x70000000
+    ∷ connectionsFrom (suc i) n
+
+abbrev pub connections : ℕ → List ℕ
+connections n = connectionsFrom 0 n
+
+-- a loading: its number; what it leaves
+abbrev loading : List ℕ → List Record → List ℕ
+loading ws rs = numberOf (loadedOf ws rs .answer) ∷ leaving (loadedOf ws rs .lent)
+
+-- of so many connections into as many records: its number, the size of the table and the CID of its last record
+abbrev pub loadingAll : ℕ → List ℕ
+loadingAll n =
+    let l = loadedOf (connections n) (replicate n blankRecord) in
+    numberOf (l .answer) ∷ l .lent .gateway .count ∷ endpointAt (l .lent) (n - 1) .settings .connection ∷ []
 
 -- the frame check of a frame with this CTRL
 abbrev formOf : ℕ → ℕ
@@ -220,8 +315,9 @@ row g s = record { given = g; stated = s }
 abbrev case : ℕ → ℕ → Case
 case g s = row (g ∷ []) (s ∷ [])
 
-abbrev pub cases : List Case
-cases =
+-- ---- document 01; its T code in the standard's words too (document 02, note 4)
+unfoldable pub edges : List Case
+edges =
     -- CID of master 1/2, slave 1/3
     case (masterSettings .connection) 0x01020103
     -- the slave's S-Refresh has CTRL 0xFF040000; sending time 65,530, ts_offset 10: T code 4, CC 1
@@ -251,19 +347,29 @@ cases =
     ∷ row (showing 6330 248) (0 ∷ 1 ∷ 4 ∷ 0 ∷ 0x01020304 ∷ rowOf Refresh ∷ [])
     ∷ row (showing 6331 248) (0 ∷ 1 ∷ 4 ∷ 1 ∷ 0 ∷ rowOf Terminate ∷ [])
     ∷ row (showing 6330 247) (2 ∷ 0 ∷ 0 ∷ 0 ∷ 0 ∷ rowOf Refresh ∷ [])
+    ∷ []
+
+-- ---- document 02, note 1
+unfoldable pub emptyCycles : List Case
+emptyCycles =
     -- zero bytes: in time, the connection stays; late, it ends, and the number is 0 all the same
-    ∷ row (emptyAt shownFrom 6330 248) (0 ∷ 0 ∷ 0 ∷ 6330 ∷ rowOf Refresh ∷ [])
+    row (emptyAt shownFrom 6330 248) (0 ∷ 0 ∷ 0 ∷ 6330 ∷ rowOf Refresh ∷ [])
     ∷ row (emptyAt shownFrom 6331 248) (0 ∷ 0 ∷ 0 ∷ 6331 ∷ rowOf Terminate ∷ [])
-    -- a reading before the last changes nothing; an output one byte short; a device never loaded
+    -- a reading before the last changes nothing; an output one byte short; a gateway never loaded
     ∷ row (emptyAt shownFrom 6229 248) (1 ∷ 0 ∷ 0 ∷ 6230 ∷ rowOf Refresh ∷ [])
     ∷ row (emptyAt shownFrom 6331 247) (2 ∷ 0 ∷ 0 ∷ 6331 ∷ rowOf Terminate ∷ [])
     ∷ row (emptyAt unloaded 5 248) (0 ∷ 0 ∷ 0 ∷ 5 ∷ rowOf Close ∷ [])
     -- another wrong length; the frame check of zero bytes
     ∷ row (delivering shownFrom 6330 248 (0 ∷ [])) (4 ∷ 0 ∷ 0 ∷ 6330 ∷ rowOf Refresh ∷ [])
     ∷ case (Reader.numberOf (Reader.readingOf [])) 4
+    ∷ []
+
+-- ---- note 2
+unfoldable pub busyReplies : List Case
+busyReplies =
     -- a station that is not ready: Busy in replies to 0x01, 0x02 and 0xFC, and in no others; with Busy it stays in its
     -- state, its timer runs from the reply, and s2 is not fixed
-    ∷ row (replying (askedRight EstablishPending K.ConfirmNetwork))
+    row (replying (askedRight EstablishPending K.ConfirmNetwork))
     (0 ∷ 0x01C40000 ∷ 10 ∷ rowOf EstablishPending ∷ 6040 ∷ 5 ∷ 10 ∷ [])
     ∷ row (replying (askedRight Establish K.VerifyStation))
     (0 ∷ 0x02C40000 ∷ 10 ∷ rowOf Establish ∷ 6040 ∷ 5 ∷ 10 ∷ [])
@@ -279,8 +385,8 @@ cases =
     -- unequal contents: 16, with Error and without Busy
     ∷ row (replying (asked true ParamVerify K.RefreshReady word))
     (16 ∷ 0xFCA40000 ∷ 10 ∷ rowOf Terminate ∷ 6000 ∷ 5 ∷ 10 ∷ [])
-    -- a master on a Busy reply: its state stays, its timer starts afresh, m2 is not fixed, and the same Cmd is due again
-    -- with a new timestamp; without Busy it moves on, and m2 is fixed
+    -- a master on a Busy reply: its state stays, its timer starts afresh, m2 is not fixed, and the same Cmd is due
+    -- again with a new timestamp; without Busy it moves on, and m2 is fixed
     ∷ row (hearing (reply true false zeroWord)) (0 ∷ rowOf ParamVerify ∷ 1030 ∷ 5 ∷ 0 ∷ [])
     ∷ row (calling (sendOf dueAgain 1031 [])) (0 ∷ 0xFC000000 ∷ 1031 ∷ rowOf ParamVerify ∷ 1 ∷ [])
     ∷ row (hearing (reply false false zeroWord)) (0 ∷ rowOf RefreshPending ∷ 1030 ∷ 1030 ∷ 0 ∷ [])
@@ -295,8 +401,13 @@ cases =
     ∷ case (formOf 0xFEC40000) 7
     ∷ case (formOf 0xFC400000) 7
     ∷ case (formOf 0xFF440000) 7
+    ∷ []
+
+-- ---- note 3
+unfoldable pub requestLimits : List Case
+requestLimits =
     -- request 45 is written and counted; request 46 is 19: nothing is written, and the connection ends
-    ∷ row (calling (sentAfter 44 EstablishPending 1010)) (0 ∷ 0x01000000 ∷ 1010 ∷ rowOf EstablishPending ∷ 45 ∷ [])
+    row (calling (sentAfter 44 EstablishPending 1010)) (0 ∷ 0x01000000 ∷ 1010 ∷ rowOf EstablishPending ∷ 45 ∷ [])
     ∷ row (calling (sentAfter 45 EstablishPending 1010)) (19 ∷ 0 ∷ 0 ∷ rowOf Terminate ∷ 45 ∷ [])
     -- 19 before 17, and after 11; a count that no call leaves
     ∷ row (calling (sentAfter 44 EstablishPending 1000)) (17 ∷ 0 ∷ 0 ∷ rowOf EstablishPending ∷ 44 ∷ [])
@@ -312,6 +423,69 @@ cases =
     ∷ row (calling (startOf (after 45 Close) 1010)) (0 ∷ 0 ∷ 0 ∷ rowOf Starting ∷ 0 ∷ [])
     ∷ []
 
+-- ---- note 11
+unfoldable pub lentSlices : List Case
+lentSlices =
+    -- a slice shorter than the table: 2, before any clock step and with nothing changed, whatever the call
+    row (answering (startIn short 6331 0)) (unchanged 2)
+    ∷ row (answering (sendIn short 6331 248 0 word)) (unchanged 2)
+    ∷ row (answering (stopIn short 6331 248 0)) (unchanged 2)
+    ∷ row (answering (restartIn short 6331 0)) (unchanged 2)
+    ∷ row (answering (setNotReadyIn short 6331 0 true)) (unchanged 2)
+    ∷ row (answering (showIn short 6331 248 0)) (unchanged 2)
+    ∷ row (answering (deliverIn short 6331 248 [])) (unchanged 2)
+    ∷ row (answering (deliverIn short 6331 248 arrived)) (unchanged 2)
+    -- after 1: a reading before the last, and one above the limit
+    ∷ row (answering (showIn short 6229 248 0)) (unchanged 1)
+    ∷ row (answering (showIn short 281474976645120 248 0)) (unchanged 1)
+    -- before 9, a short output's 2, 3 and 4, which come after the clock step
+    ∷ row (answering (startIn whole 6331 0)) (steppedTo 9 1)
+    ∷ row (answering (showIn short 6331 247 0)) (unchanged 2)
+    ∷ row (answering (showIn whole 6331 247 0)) (steppedTo 2 0)
+    ∷ row (answering (startIn short 6331 2)) (unchanged 2)
+    ∷ row (answering (startIn whole 6331 2)) (steppedTo 3 0)
+    ∷ row (answering (deliverIn short 6331 248 (0 ∷ []))) (unchanged 2)
+    ∷ row (answering (deliverIn whole 6331 248 (0 ∷ []))) (steppedTo 4 0)
+    -- lent whole again: 6,331 is not the last reading, and the value is shown
+    ∷ row (answering (showIn (wholeAfter (showIn short 6331 248 0)) 6330 248 0))
+    (0 ∷ 1 ∷ 4 ∷ 0 ∷ 6330 ∷ 2 ∷ asItWas ++ blank)
+    -- a record past the table stays, is no entry (3), and no frame is its (8)
+    ∷ row (answering (deliverIn longer 6240 248 arrived)) (0 ∷ 1 ∷ 0 ∷ 0 ∷ 6240 ∷ 1 ∷ renewed ++ asItWas)
+    ∷ row (answering (deliverIn longer 6331 248 [])) (0 ∷ 0 ∷ 0 ∷ 0 ∷ 6331 ∷ 1 ∷ ended ++ asItWas)
+    ∷ row (answering (stopIn longer 6240 248 1)) (3 ∷ 0 ∷ 0 ∷ 0 ∷ 6240 ∷ 1 ∷ asItWas ++ asItWas)
+    ∷ row (answering (deliverIn (gatewayOf 0 (inRefresh ∷ [])) 6331 248 arrived))
+    (8 ∷ 0 ∷ 0 ∷ 0 ∷ 6331 ∷ 0 ∷ asItWas)
+    -- no connections and no records: not shorter
+    ∷ row (answering (showIn unloaded 5 248 0)) (3 ∷ 0 ∷ 0 ∷ 0 ∷ 5 ∷ 0 ∷ [])
+    ∷ []
+
+unfoldable pub loadings : List Case
+loadings =
+    -- the first records are the list's connections, and the others stay
+    row (loading (connections 2) (replicate 3 inRefresh)) (0 ∷ 0 ∷ 2 ∷ blank ++ (blank ++ asItWas))
+    -- a slice that is too short: 2; it stays, and the table is of no connections
+    ∷ row (loading (connections 2) (inRefresh ∷ [])) (2 ∷ 0 ∷ 0 ∷ asItWas)
+    ∷ row (loading (connections 2) []) (2 ∷ 0 ∷ 0 ∷ [])
+    ∷ row (answering (showIn (loadedOf (connections 2) (inRefresh ∷ []) .lent) 5 248 0))
+    (3 ∷ 0 ∷ 0 ∷ 0 ∷ 5 ∷ 0 ∷ asItWas)
+    -- after 18: one CID twice, no words
+    ∷ row (loading (connections 1 ++ connections 1) (inRefresh ∷ [])) (18 ∷ 0 ∷ 0 ∷ asItWas)
+    ∷ row (loading [] []) (18 ∷ 0 ∷ 0 ∷ [])
+    -- 9 connections pass, 65 do not
+    ∷ row (loadingAll 9) (0 ∷ 9 ∷ 0x01088008 ∷ [])
+    ∷ row (loadingAll 65) (18 ∷ 0 ∷ 0 ∷ [])
+    ∷ []
+
+-- 64 pass
+unfoldable pub fullTable : List Case
+fullTable = row (loadingAll 64) (0 ∷ 64 ∷ 0x013F803F ∷ []) ∷ []
+
+abbrev pub cases : List Case
+cases = edges ++ (emptyCycles ++ (busyReplies ++ (requestLimits ++ (lentSlices ++ (loadings ++ fullTable)))))
+
 -- each row gives what the paper states
+unfoldable pub Hold : List Case → Type 0
+Hold cs = map (λ (c : Case). c .given) cs ≡ map (λ (c : Case). c .stated) cs
+
 abbrev pub CasesHold : Type 0
-CasesHold = map (λ (c : Case). c .given) cases ≡ map (λ (c : Case). c .stated) cases
+CasesHold = Hold cases

@@ -6,7 +6,7 @@ use Rattle.frame.specs.declared.Command.{Command}
 use Rattle.frame.specs.Control.{mayBeBusy}
 use Rattle.endpoint.specs.declared.Pending.{Pending}
 use Rattle.endpoint.specs.declared.Pending.the-variants.{Nothing, Asked}
-use Rattle.endpoint.specs.declared.Endpoint.{Endpoint}
+use Rattle.endpoint.specs.Endpoint.{Endpoint}
 use Rattle.endpoint.specs.Table.{isSetup, requestOf}
 
 -- the request due from a master: the one that it sends next, or that is pending

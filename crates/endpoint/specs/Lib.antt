@@ -1,4 +1,5 @@
 -- One connection's end, in reading order.
+pub mod Endpoint
 pub mod Answers
 pub mod Table
 pub mod Due

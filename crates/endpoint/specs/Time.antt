@@ -1,4 +1,5 @@
 -- Clocks, timestamps and ages (document 01, "Clock and stamp" and "The steps"), and the clock step.
+use mathlib.Core.Path.{_≡_}
 use mathlib.Core.Bool.{Bool, true, false, _&&_, _||_, not, cond}
 use Prim.Native.Nat.{ℕ, _+_, _-_, _%_}
 use lib.Dec.{ltb, leb}
@@ -8,8 +9,8 @@ use Rattle.endpoint.specs.declared.State.{State}
 use Rattle.endpoint.specs.declared.State.the-variants.{Refresh, Terminate}
 use Rattle.endpoint.specs.declared.Timestamp.{Timestamp}
 use Rattle.endpoint.specs.declared.Timestamp.the-variants.{Never, At}
-use Rattle.endpoint.specs.declared.Value.{Value}
-use Rattle.endpoint.specs.declared.Endpoint.{Endpoint}
+use Rattle.endpoint.specs.Endpoint.{Value}
+use Rattle.endpoint.specs.Endpoint.{Endpoint}
 use Rattle.endpoint.specs.Table.{isState, isSetup}
 use Rattle.endpoint.specs.Updates.{inState, holding}
 
@@ -76,6 +77,10 @@ isExpired e t = isOver (e .state) (e .settings .roundtrip) (e .settings .interva
 -- no value is held: the fail-safe value
 abbrev pub noValue : Value
 noValue = record { taken = false; bytes = replicate 100 0 }
+
+-- an endpoint that has taken no value holds the fail-safe value
+abbrev pub Tidy : Endpoint → Type 0
+Tidy e = e .value .taken ≡ false → e .value .bytes ≡ replicate 100 0
 
 -- the connection ends: Terminate, and no value is held
 abbrev pub endedOf : Endpoint → Endpoint

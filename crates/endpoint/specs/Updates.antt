@@ -8,8 +8,8 @@ use Rattle.endpoint.specs.declared.Timestamps.{Timestamps}
 use Rattle.endpoint.specs.declared.Pending.{Pending}
 use Rattle.endpoint.specs.declared.Setup.{Setup}
 use Rattle.endpoint.specs.declared.Station.{Station}
-use Rattle.endpoint.specs.declared.Value.{Value}
-use Rattle.endpoint.specs.declared.Endpoint.{Endpoint}
+use Rattle.endpoint.specs.Endpoint.{Value}
+use Rattle.endpoint.specs.Endpoint.{Endpoint}
 
 abbrev pub endpointOf : Settings → State → ℕ → Timestamps → Setup → Station → Value → Endpoint
 endpointOf settings state since timestamps setup station value = record {

@@ -1,9 +1,8 @@
 // Answers: their numbers, and the first refusal that applies.
 ghost use mathlib.Core.Path.{_≡_};
 ghost use Rattle.endpoint.specs.Answers.{reasonNumber, numberOf, callFaults, setupFaults, valueFaults, firstOf};
-ghost use Rattle.endpoint.specs.Answers.{isDone, isDropped, isEnded, leftBy};
+ghost use Rattle.endpoint.specs.Answers.{isDone, isDropped, isEnded};
 use super::Answer;
-use super::Endpoint;
 use super::Faults;
 use super::Reason;
 
@@ -150,16 +149,5 @@ pub fn is_ended(answer: Answer) -> bool
         Answer::Done => false,
         Answer::Dropped(_) => false,
         Answer::Ended(_) => true,
-    }
-}
-
-// The endpoint that an answer leaves.
-pub fn left_by(answer: Answer, stays: Endpoint, ends: Endpoint, next: Endpoint) -> Endpoint
-    ensures { λ r. ⌜ r ≡ leftBy answer stays ends next ⌝ }
-{
-    match answer {
-        Answer::Done => next,
-        Answer::Dropped(_) => stays,
-        Answer::Ended(_) => ends,
     }
 }

@@ -1,7 +1,8 @@
 // The request due from a master, what can hold it back, and what holds a station's reply back.
 ghost use mathlib.Core.Path.{_≡_};
+ghost use Rattle.endpoint.specs.Endpoint.{bare};
 ghost use Rattle.endpoint.specs.Due.{requestDue, isPending, answersTo, mayRequest, isExhausted, isBusy};
-use super::Endpoint;
+use super::Core;
 use super::Pending;
 use super::table::is_setup;
 use super::table::request_of;
@@ -12,8 +13,8 @@ use frame::control::may_be_busy;
 const REQUEST_LIMIT: u8 = 45;
 
 // The request that a master sends next, or that is pending.
-pub fn request_due(e: Endpoint) -> Command
-    ensures { λ r. ⌜ r ≡ requestDue e ⌝ }
+pub fn request_due(e: Core) -> Command
+    ensures { λ r. ⌜ r ≡ requestDue (bare e) ⌝ }
 {
     let state = e.state;
     request_of(state)
@@ -39,8 +40,8 @@ pub fn answers_to(pending: Pending, stamp: u64) -> bool
 }
 
 // Whether a master may send the request due.
-pub fn may_request(e: Endpoint) -> bool
-    ensures { λ r. ⌜ r ≡ mayRequest e ⌝ }
+pub fn may_request(e: Core) -> bool
+    ensures { λ r. ⌜ r ≡ mayRequest (bare e) ⌝ }
 {
     let state = e.state;
     let setup = e.setup;
@@ -49,15 +50,15 @@ pub fn may_request(e: Endpoint) -> bool
 }
 
 // Whether a further request would be one too many.
-pub fn is_exhausted(e: Endpoint) -> bool
-    ensures { λ r. ⌜ r ≡ isExhausted e ⌝ }
+pub fn is_exhausted(e: Core) -> bool
+    ensures { λ r. ⌜ r ≡ isExhausted (bare e) ⌝ }
 {
     REQUEST_LIMIT <= e.setup.requests
 }
 
 // Whether a slave's reply to a command has Busy 1.
-pub fn is_busy(e: Endpoint, k: Command) -> bool
-    ensures { λ r. ⌜ r ≡ isBusy e k ⌝ }
+pub fn is_busy(e: Core, k: Command) -> bool
+    ensures { λ r. ⌜ r ≡ isBusy (bare e) k ⌝ }
 {
     e.station.notready & may_be_busy(k)
 }

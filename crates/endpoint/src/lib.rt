@@ -1,4 +1,4 @@
-// One connection's end, as master or as slave: its record, the table of its states, its timers, timestamps and ages,
+// One connection's end, as master or as slave: what it keeps, the table of its states, its timers, timestamps and ages,
 // and the answers that calls on it get. The calls themselves are in the crate steps.
 
 pub mod answers;
@@ -72,13 +72,8 @@ pub struct Station {
     pub notready: bool,
 }
 
-// The last value accepted in this Refresh, with zeros after it; the fail-safe value [0; 100] where there is none.
-pub struct Value {
-    pub taken: bool,
-    pub bytes: [u8; 100],
-}
-
-pub struct Endpoint {
+// What the calls on a connection hand on by value: all that it keeps, but for the bytes of its value.
+pub struct Core {
     pub settings: Settings,
     pub state: State,
     // where the timer starts
@@ -86,7 +81,8 @@ pub struct Endpoint {
     pub timestamps: Timestamps,
     pub setup: Setup,
     pub station: Station,
-    pub value: Value,
+    // whether a value was accepted in this Refresh
+    pub taken: bool,
 }
 
 // Why a call is refused: document 01's number and trade word stand beside each.

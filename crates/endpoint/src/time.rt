@@ -1,13 +1,13 @@
 // Clocks, timestamps and ages, and the clock step.
 ghost use mathlib.Core.Path.{_≡_};
 ghost use Prim.Native.Nat.{_-_};
+ghost use Rattle.endpoint.specs.Endpoint.{bare, coreOf};
 ghost use Rattle.endpoint.specs.Time.{minus, masterTime, isAbove, isTooFarAhead, allowanceOf, isTooLate};
-ghost use Rattle.endpoint.specs.Time.{offsetFrom, isOver, isExpired, noValue, endedOf, afterTick, timeOf, ageOf};
-use super::Endpoint;
+ghost use Rattle.endpoint.specs.Time.{offsetFrom, isOver, isExpired, endedOf, afterTick, timeOf, ageOf};
+use super::Core;
 use super::Settings;
 use super::State;
 use super::Timestamp;
-use super::Value;
 use super::t_code::slave_time;
 use super::table::is_setup;
 use super::table::is_state;
@@ -51,15 +51,15 @@ fn master_time(slave: bool, offset: u64, clock: u64) -> u64
 }
 
 // The same, of the endpoint at its clock reading.
-pub fn time_of(e: Endpoint, clock: u64) -> u64
-    ensures { λ r. ⌜ r ≡ timeOf e clock ⌝ }
+pub fn time_of(e: Core, clock: u64) -> u64
+    ensures { λ r. ⌜ r ≡ timeOf (bare e) clock ⌝ }
 {
     master_time(e.settings.slave, e.setup.offset, clock)
 }
 
 // A timestamp's age at an endpoint.
-pub fn age_of(e: Endpoint, clock: u64, stamp: u64) -> u64
-    ensures { λ r. ⌜ r ≡ ageOf e clock stamp ⌝ }
+pub fn age_of(e: Core, clock: u64, stamp: u64) -> u64
+    ensures { λ r. ⌜ r ≡ ageOf (bare e) clock stamp ⌝ }
 {
     minus(time_of(e, clock), stamp)
 }
@@ -108,8 +108,8 @@ fn is_over(state: State, roundtrip: u32, interval: u32, passed: u64) -> bool
 }
 
 // Whether a clock reading ends the connection: its timer has expired.
-pub fn expired(e: Endpoint, clock: u64) -> bool
-    ensures { λ r. ⌜ r ≡ isExpired e clock ⌝ }
+pub fn expired(e: Core, clock: u64) -> bool
+    ensures { λ r. ⌜ r ≡ isExpired (bare e) clock ⌝ }
 {
     let state = e.state;
     is_over(
@@ -120,27 +120,18 @@ pub fn expired(e: Endpoint, clock: u64) -> bool
     )
 }
 
-pub fn no_value() -> Value
-    ensures { λ r. ⌜ r ≡ noValue ⌝ }
-{
-    Value {
-        taken: false,
-        bytes: [0; 100],
-    }
-}
-
 // The endpoint in Terminate, with no value held.
-pub fn ended(e: Endpoint) -> Endpoint
-    ensures { λ r. ⌜ r ≡ endedOf e ⌝ }
+pub fn ended(e: Core) -> Core
+    ensures { λ r. ⌜ r ≡ coreOf (endedOf (bare e)) ⌝ }
 {
     let mut next = in_state(State::Terminate, e);
-    next.value = no_value();
+    next.taken = false;
     next
 }
 
 // The clock step: the endpoint ended where its timer has expired, else as it was.
-pub fn tick(e: Endpoint, clock: u64) -> Endpoint
-    ensures { λ r. ⌜ r ≡ afterTick e clock ⌝ }
+pub fn tick(e: Core, clock: u64) -> Core
+    ensures { λ r. ⌜ r ≡ coreOf (afterTick (bare e) clock) ⌝ }
 {
     if expired(e, clock) {
         return ended(e);

@@ -1,35 +1,35 @@
-// An endpoint with a part of it changed that is an enum, the others as they were. Other parts are stored to in place.
+// A core with a part of it changed that is an enum, the others as they were. Other parts are stored to in place.
 ghost use mathlib.Core.Path.{_≡_};
+ghost use Rattle.endpoint.specs.Endpoint.{bare, coreOf};
 ghost use Rattle.endpoint.specs.Updates.{inState, withSent, withAccepted, withPending};
-use super::Endpoint;
+use super::Core;
 use super::Pending;
 use super::Setup;
 use super::State;
 use super::Timestamp;
 use super::Timestamps;
 
-pub fn in_state(state: State, e: Endpoint) -> Endpoint
-    ensures { λ r. ⌜ r ≡ inState state e ⌝ }
+pub fn in_state(state: State, e: Core) -> Core
+    ensures { λ r. ⌜ r ≡ coreOf (inState state (bare e)) ⌝ }
 {
     let settings = e.settings;
     let timestamps = e.timestamps;
     let setup = e.setup;
     let station = e.station;
-    let value = e.value;
-    Endpoint {
+    Core {
         settings: settings,
         state: state,
         since: e.since,
         timestamps: timestamps,
         setup: setup,
         station: station,
-        value: value,
+        taken: e.taken,
     }
 }
 
 // This timestamp is remembered as the last sent.
-pub fn with_sent(stamp: u64, e: Endpoint) -> Endpoint
-    ensures { λ r. ⌜ r ≡ withSent stamp e ⌝ }
+pub fn with_sent(stamp: u64, e: Core) -> Core
+    ensures { λ r. ⌜ r ≡ coreOf (withSent stamp (bare e)) ⌝ }
 {
     let timestamps = e.timestamps;
     let accepted = timestamps.accepted;
@@ -43,8 +43,8 @@ pub fn with_sent(stamp: u64, e: Endpoint) -> Endpoint
 }
 
 // This timestamp is remembered as the last accepted.
-pub fn with_accepted(stamp: u64, e: Endpoint) -> Endpoint
-    ensures { λ r. ⌜ r ≡ withAccepted stamp e ⌝ }
+pub fn with_accepted(stamp: u64, e: Core) -> Core
+    ensures { λ r. ⌜ r ≡ coreOf (withAccepted stamp (bare e)) ⌝ }
 {
     let timestamps = e.timestamps;
     let sent = timestamps.sent;
@@ -57,8 +57,8 @@ pub fn with_accepted(stamp: u64, e: Endpoint) -> Endpoint
     next
 }
 
-pub fn with_pending(pending: Pending, e: Endpoint) -> Endpoint
-    ensures { λ r. ⌜ r ≡ withPending pending e ⌝ }
+pub fn with_pending(pending: Pending, e: Core) -> Core
+    ensures { λ r. ⌜ r ≡ coreOf (withPending pending (bare e)) ⌝ }
 {
     let changed = Setup {
         pending: pending,

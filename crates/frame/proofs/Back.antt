@@ -7,7 +7,7 @@ use Prim.Native.Nat.{ℕ, zero, suc, _+_, _-_, _/_, _%_, _^_, _≤_, _<_}
 use native.Mathlib.Omega.{arith}
 use lib.Dec.{eqb, lit<}
 use lib.ListN.{length, getD, take, drop, length-drop, take-append-drop}
-use lib.Seq.{slice, take-add, take-take, drop-drop, drop-cons, take-all, length-take-le}
+use lib.Seq.{slice, getD-take, take-add, take-take, drop-drop, drop-cons, take-all, length-take-le}
 use borrow.Author.Tests.{eqb-true, eq-eqb, le-leb, lt-ltb}
 use Rattle.words.specs.Bytes.{Bytes, same}
 use Rattle.words.specs.Words.{wordAt, wordBytes}
@@ -21,6 +21,7 @@ use Rattle.frame.specs.declared.Reading.{Reading}
 use Rattle.frame.specs.declared.Reading.the-variants.{Frame, Refused}
 use Rattle.frame.specs.Control.{bit, subconnectionOf, controlOf, hasForm}
 use Rattle.frame.specs.Reading.{isFrameLength, hasCheckWord, fieldsIn, isFormed, readingOfCopies, readingOf}
+use Rattle.frame.specs.Reading.{bodyIn, Locates}
 use Rattle.frame.specs.Writing.{timeOf, carryOf, headBytes, withCheckWord, twice, subBytes, frameBytes}
 use Rattle.frame.specs.Writing.{isWritable}
 use Rattle.frame.specs.RoundTrip.{SubconnectionFits, Writable}
@@ -61,6 +62,33 @@ within s f start end h =
     let g = frame-length (length s) (p .0) in
     let l : length (take n s) ≡ n = length-take-le n s (omega arith) in
     (omega (arith, q .starts, q .ends), omega (arith, q .ends))
+
+-- ---- its CID and its body stand where they are sought without reading it
+word-take : (s : List ℕ) (n k : ℕ) → k + 3 < n → wordAt (take n s) k ≡ wordAt s k
+word-take s n k h =
+    rw (
+      getD-take n s k 0 (omega arith),
+      getD-take n s (k + 1) 0 (omega arith),
+      getD-take n s (k + 2) 0 (omega arith),
+      getD-take n s (k + 3) 0 h,
+    )
+
+same-span : (s : List ℕ) (start end : ℕ) → isFrameLength (length s) ≡ true → start ≡ 20 → end ≡ length s / 2 - 4
+    → bodyIn s ≡ slice start end s
+same-span s start end h a b = rw (h, a, b)
+
+pub locates : Locates
+unfolding readingOf fieldsIn
+locates s f start end h =
+    let n : ℕ = length s / 2 in
+    let p = past f start end (isFrameLength (length s)) Length _ h in
+    let q = accepted f start end (take n s) (drop n s) (p .1) in
+    let g = frame-length (length s) (p .0) in
+    let l : length (take n s) ≡ n = length-take-le n s (omega arith) in
+    record {
+      connection = sym (word-take s n 4 (omega arith)) ∙ ap (λ (x : Fields). x .connection) (q .fields);
+      body = same-span s start end (p .0) (q .starts) (q .ends ∙ ap (λ (m : ℕ). m - 4) l);
+    }
 
 -- ---- a SubPDU of bytes, put together again from its words and its body
 subconnection-fits : (b : Bool) (v : ℕ) → SubconnectionFits (subconnectionOf b (v % 65536))

@@ -1,9 +1,11 @@
 -- Reading a frame (document 01, "The frame"; numbers 4 to 7).
+use mathlib.Core.Path.{_≡_}
 use mathlib.Core.Bool.{Bool, _&&_, not, cond}
 use mathlib.Core.List.{List}
 use Prim.Native.Nat.{ℕ, _+_, _-_, _*_, _/_, _%_}
 use lib.Dec.{eqb, leb}
 use lib.ListN.{length, take, drop}
+use lib.Seq.{slice}
 use Rattle.words.specs.Bytes.{same}
 use Rattle.words.specs.Words.{wordAt}
 use Rattle.crc.specs.Crc.{crc}
@@ -12,6 +14,7 @@ use Rattle.frame.specs.declared.Fault.{Fault}
 use Rattle.frame.specs.declared.Fault.the-variants.{Length, Copies, CheckWord, Form}
 use Rattle.frame.specs.declared.Reading.{Reading}
 use Rattle.frame.specs.declared.Reading.the-variants.{Frame, Refused}
+use Rattle.frame.specs.declared.Span.{Span}
 use Rattle.frame.specs.Control.{bit, commandOf, subconnectionOf, controlOf, hasForm}
 
 -- 56, 64, .. 248
@@ -59,6 +62,25 @@ unfoldable pub readingOf : List ℕ → Reading
 readingOf s =
     cond (not (isFrameLength (length s))) (Refused Length)
     (readingOfCopies (take (length s / 2) s) (drop (length s / 2) s))
+
+-- ---- without reading them: the CID and the body of bytes, should they be a frame
+abbrev pub connectionIn : List ℕ → ℕ
+connectionIn s = wordAt s 4
+
+-- in bytes of no frame's length it is empty
+abbrev pub spanOf : ℕ → Span
+spanOf n = cond (isFrameLength n) (record { start = 20; end = n / 2 - 4 }) (record { start = 0; end = 0 })
+
+abbrev pub bodyIn : List ℕ → List ℕ
+bodyIn s = slice (spanOf (length s) .start) (spanOf (length s) .end) s
+
+-- of a frame they are its own
+pub record Located (s : List ℕ) (f : Fields) (start end : ℕ) : Type 0 where
+  pub connection : connectionIn s ≡ f .connection
+  pub body : bodyIn s ≡ slice start end s
+
+abbrev pub Locates : Type 0
+Locates = (s : List ℕ) (f : Fields) (start end : ℕ) → readingOf s ≡ Frame f start end → Located s f start end
 
 -- document 01's number of a reading, 0 for a frame
 abbrev pub faultNumber : Fault → ℕ

@@ -54,6 +54,12 @@ pub struct Fields {
     pub baseline: u16,
 }
 
+// Where a part of some bytes lies.
+pub struct Span {
+    pub start: usize,
+    pub end: usize,
+}
+
 // Why bytes are no frame. Document 01's number and trade word stand beside each.
 pub enum Fault {
     // 4, length

@@ -4,10 +4,12 @@ ghost use Prim.Native.Nat.{_≤_};
 ghost use lib.ListN.{length};
 ghost use Rattle.frame.specs.Reading.{isFrameLength, hasCheckWord, fieldsOf, fieldsIn, isFormed};
 ghost use Rattle.frame.specs.Reading.{readingOfCopies, readingOf, faultNumber, numberOf};
+ghost use Rattle.frame.specs.Reading.{connectionIn, spanOf};
 use super::Fault;
 use super::Fields;
 use super::LONGEST_FRAME;
 use super::Reading;
+use super::Span;
 use super::control::command_of;
 use super::control::control_of;
 use super::control::has_form;
@@ -94,6 +96,26 @@ pub fn read_frame(bytes: &[u8]) -> Reading
     read_copies(&bytes[..half], &bytes[half..])
 }
 
+// The CID, should the bytes be a frame.
+pub fn connection_in(bytes: &[u8]) -> u32
+    ensures { λ r. ⌜ r ≡ connectionIn (now (bytes .entry)) ⌝ }
+{
+    word_at(bytes, 4)
+}
+
+// Where the body lies in n bytes, should they be a frame.
+pub fn body_span(n: usize) -> Span
+    ensures { λ r. ⌜ (r ≡ spanOf n) × (r .start ≤ r .end) × (r .end ≤ n) ⌝ }
+{
+    if is_frame_length(n) {
+        return Span {
+            start: 20,
+            end: n / 2 - 4,
+        };
+    }
+    Span { start: 0, end: 0 }
+}
+
 fn fault_number(fault: Fault) -> u8
     ensures { λ r. ⌜ r ≡ faultNumber fault ⌝ }
 {
@@ -107,7 +129,7 @@ fn fault_number(fault: Fault) -> u8
 
 // The frame check for the bus card's driver, in C: 0, or the number of the first fault (include/folderpink.h).
 #[no_mangle]
-pub extern "C" fn check_frame(bytes: &[u8]) -> u8
+pub extern "C" fn folderpink_check_frame(bytes: &[u8]) -> u8
     ensures { λ r. ⌜ r ≡ numberOf (readingOf (now (bytes .entry))) ⌝ }
 {
     let reading = read_frame(bytes);

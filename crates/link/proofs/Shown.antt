@@ -10,7 +10,7 @@ use lib.Seq.{take-all, take-at}
 use borrow.Author.Tests.{not-false}
 use mathlib.Mathlib.Data.Bool.Basic.{and-elim-left as and-left, and-elim-right as and-right}
 use Rattle.endpoint.specs.declared.State.the-variants.{Refresh}
-use Rattle.endpoint.specs.declared.Endpoint.{Endpoint}
+use Rattle.endpoint.specs.Endpoint.{Endpoint}
 use Rattle.endpoint.specs.Table.{isState}
 use Rattle.steps.specs.Frames.{showWidth}
 use Rattle.steps.specs.Calls.{isFailSafe, heldOr, shownOf}

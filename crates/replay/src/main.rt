@@ -1,21 +1,30 @@
-// Replays a list of calls on one device: each line of standard input is a call, each line of standard output its
+// Replays a list of calls on one gateway: each line of standard input is a call, each line of standard output its
 // answer.
+
+mod lending;
+
 ghost use mathlib.Core.Path.{_≡_};
+ghost use Prim.Native.Nat.{_≤_};
 ghost use lib.ListN.{length};
 ghost use Rattle.io.specs.Counts.{Counts};
-use device::Called;
-use device::Device;
-use device::Entry;
-use endpoint::Answer;
+use gateway::Call;
+use gateway::Called;
+use gateway::Gateway;
+use lending::Answered;
 use libc::STDIN_FILENO;
 use libc::STDOUT_FILENO;
+use records::Record;
+use records::Stored;
 use text::Act;
 use text::Line;
+use text::Parameter;
 
-// The device; the length of the output that calls are lent; the place of the line in the input, counted from 1; how
-// many of its bytes have come; and whether to go on.
+// The records and the gateway; how many of the records, and how long an output, calls are lent; the place of the line
+// in the input, counted from 1; how many of its bytes have come; and whether to go on.
 struct Replay {
-    device: Device,
+    records: [Record; 70],
+    gateway: Gateway,
+    lent: usize,
     room: usize,
     place: u64,
     length: usize,
@@ -44,17 +53,55 @@ fn filled() -> [u8; 256]
     [238; 256]
 }
 
-fn no_words() -> [u32; 64]
-    ensures { λ r. ⌜ 64 ≡ length r ⌝ }
+fn no_words() -> [u32; 450]
+    ensures { λ r. ⌜ 450 ≡ length r ⌝ }
 {
-    [0; 64]
+    [0; 450]
 }
 
-fn text_entry(entry: Entry) -> text::Entry {
-    match entry {
-        Entry::Absent => text::Entry::Absent,
-        Entry::At(n) => text::Entry::At(n),
+fn blank() -> Record {
+    Record {
+        stored: Stored {
+            since: 0,
+            sent: 0,
+            accepted: 0,
+            asked: 0,
+            measured: 0,
+            offset: 0,
+            connection: 0,
+            interval: 0,
+            roundtrip: 0,
+            age: 0,
+            station: 0,
+            state: 0,
+            slave: 0,
+            masterwords: 0,
+            slavewords: 0,
+            hassent: 0,
+            hasaccepted: 0,
+            hasasked: 0,
+            requests: 0,
+            notready: 0,
+            taken: 0,
+        },
+        value: [0; 100],
     }
+}
+
+// As many of the records as there are.
+fn records_within(n: usize) -> usize
+    ensures { λ r. ⌜ r ≤ 70 ⌝ }
+{
+    if n < 70 { n } else { 70 }
+}
+
+// ---- answers
+
+fn text_entry(named: u8, entry: usize) -> text::Entry {
+    if named == 0 {
+        return text::Entry::Absent;
+    }
+    text::Entry::At(entry)
 }
 
 fn print(text: &[u8], n: usize) -> bool {
@@ -63,135 +110,132 @@ fn print(text: &[u8], n: usize) -> bool {
 }
 
 // Writes the answer to a call that was lent out.
-fn print_answer(answer: Answer, entry: Entry, count: usize, mark: bool, out: &[u8]) -> bool {
+fn print_answer(called: Called, out: &[u8]) -> bool {
     let mut text = io::buffer();
-    let n = within(count, out);
+    let n = within(called.count, out);
     let dirty = !text::answer::is_clean(out, n);
-    let number = endpoint::answers::number(answer);
     let k = text::answer::put_answer(
         &mut text,
-        number,
-        text_entry(entry),
-        count,
-        mark,
+        called.number,
+        text_entry(called.named, called.entry),
+        called.count,
+        called.failsafe != 0,
         dirty,
         &out[..n],
     );
     print(&text, k)
 }
 
-// The state after a line that left this device.
-fn with_device(r: Replay, device: Device, going: bool) -> Replay {
+fn with_going(r: Replay, going: bool) -> Replay {
+    let mut next = r;
+    next.going = going;
+    next
+}
+
+// ---- lines
+
+// The state after a call that was lent out.
+fn after(r: Replay, answered: Answered, out: &[u8]) -> Replay {
+    let called = answered.called;
+    let gateway = called.gateway;
+    let records = answered.records;
     Replay {
-        device: device,
+        records: records,
+        gateway: gateway,
+        lent: r.lent,
         room: r.room,
         place: r.place,
         length: r.length,
-        going: going,
+        going: print_answer(called, out),
     }
 }
 
-fn with_room(r: Replay, room: usize) -> Replay {
-    let device = r.device;
-    Replay {
-        device: device,
-        room: room,
-        place: r.place,
-        length: r.length,
-        going: r.going,
+fn call_at(gateway: Gateway, clock: u64, entry: usize, notready: u8) -> Call {
+    Call {
+        gateway: gateway,
+        clock: clock,
+        entry: entry,
+        notready: notready,
     }
 }
 
-fn with_going(r: Replay, going: bool) -> Replay {
-    let device = r.device;
-    with_device(r, device, going)
+fn start(r: Replay, c: Call, out: &[u8]) -> Replay {
+    let records = r.records;
+    let answered = lending::start(records, records_within(r.lent), c);
+    after(r, answered, out)
 }
 
-// The state after a call that was lent out.
-fn after(r: Replay, called: Called, out: &[u8]) -> Replay {
-    let device = called.device;
-    let answer = called.answer;
-    let entry = called.entry;
-    let going = print_answer(answer, entry, called.count, called.failsafe, out);
-    with_device(r, device, going)
+fn restart(r: Replay, c: Call, out: &[u8]) -> Replay {
+    let records = r.records;
+    let answered = lending::restart(records, records_within(r.lent), c);
+    after(r, answered, out)
 }
 
-fn start(r: Replay, clock: u64, entry: u32, out: &[u8]) -> Replay {
-    let device = r.device;
-    after(r, device::calls::start(device, clock, entry), out)
+fn set_not_ready(r: Replay, c: Call, out: &[u8]) -> Replay {
+    let records = r.records;
+    let answered = lending::set_not_ready(records, records_within(r.lent), c);
+    after(r, answered, out)
 }
 
-fn restart(r: Replay, clock: u64, entry: u32, out: &[u8]) -> Replay {
-    let device = r.device;
-    after(r, device::calls::restart(device, clock, entry), out)
+fn stop(r: Replay, c: Call, out: &mut [u8]) -> Replay {
+    let records = r.records;
+    let answered = lending::stop(records, records_within(r.lent), c, out);
+    after(r, answered, out)
 }
 
-fn set_not_ready(r: Replay, clock: u64, entry: u32, notready: bool, out: &[u8]) -> Replay {
-    let device = r.device;
-    after(
-        r,
-        device::calls::set_not_ready(device, clock, entry, notready),
-        out,
-    )
-}
-
-fn stop(r: Replay, clock: u64, entry: u32, out: &mut [u8]) -> Replay {
-    let device = r.device;
-    let called = device::calls::stop(device, clock, entry, out);
-    after(r, called, out)
-}
-
-fn show(r: Replay, clock: u64, entry: u32, out: &mut [u8]) -> Replay {
-    let device = r.device;
-    let called = device::calls::show(device, clock, entry, out);
-    after(r, called, out)
+fn show(r: Replay, c: Call, out: &mut [u8]) -> Replay {
+    let records = r.records;
+    let answered = lending::show(records, records_within(r.lent), c, out);
+    after(r, answered, out)
 }
 
 // A call that has a clock reading and an entry alone.
-fn act_on(r: Replay, act: Act, clock: u64, entry: u32, out: &mut [u8]) -> Replay {
+fn act_on(r: Replay, act: Act, clock: u64, entry: usize, out: &mut [u8]) -> Replay {
+    let gateway = r.gateway;
+    let c = call_at(gateway, clock, entry, 0);
     match act {
-        Act::Start => start(r, clock, entry, out),
-        Act::Stop => stop(r, clock, entry, out),
-        Act::Restart => restart(r, clock, entry, out),
-        Act::Show => show(r, clock, entry, out),
-        Act::NotReady => set_not_ready(r, clock, entry, true, out),
-        Act::Ready => set_not_ready(r, clock, entry, false, out),
+        Act::Start => start(r, c, out),
+        Act::Stop => stop(r, c, out),
+        Act::Restart => restart(r, c, out),
+        Act::Show => show(r, c, out),
+        Act::NotReady => set_not_ready(r, call_at(gateway, clock, entry, 1), out),
+        Act::Ready => set_not_ready(r, c, out),
     }
 }
 
-fn send_bytes(r: Replay, clock: u64, entry: u32, bytes: &[u8], n: usize, out: &mut [u8]) -> Replay {
-    let device = r.device;
+fn send_bytes(r: Replay, c: Call, bytes: &[u8], n: usize, out: &mut [u8]) -> Replay {
+    let records = r.records;
     let k = within(n, bytes);
-    let called = device::calls::send(device, clock, entry, &bytes[..k], out);
-    after(r, called, out)
+    let answered = lending::send(records, records_within(r.lent), c, &bytes[..k], out);
+    after(r, answered, out)
 }
 
-fn send(r: Replay, clock: u64, entry: u32, line: &[u8], start: usize, out: &mut [u8]) -> Replay {
+fn send(r: Replay, clock: u64, entry: usize, line: &[u8], start: usize, out: &mut [u8]) -> Replay {
+    let gateway = r.gateway;
     let mut bytes = io::buffer();
     let n = text::hex::bytes_from(line, start, &mut bytes);
-    send_bytes(r, clock, entry, &bytes, n, out)
+    send_bytes(r, call_at(gateway, clock, entry, 0), &bytes, n, out)
 }
 
-fn deliver_bytes(r: Replay, clock: u64, bytes: &[u8], n: usize, out: &mut [u8]) -> Replay {
-    let device = r.device;
+fn deliver_bytes(r: Replay, c: Call, bytes: &[u8], n: usize, out: &mut [u8]) -> Replay {
+    let records = r.records;
     let k = within(n, bytes);
-    let called = device::deliver::deliver(device, clock, &bytes[..k], out);
-    after(r, called, out)
+    let answered = lending::deliver(records, records_within(r.lent), c, &bytes[..k], out);
+    after(r, answered, out)
 }
 
 fn deliver(r: Replay, clock: u64, line: &[u8], start: usize, out: &mut [u8]) -> Replay {
+    let gateway = r.gateway;
     let mut bytes = io::buffer();
     let n = text::hex::bytes_from(line, start, &mut bytes);
-    deliver_bytes(r, clock, &bytes, n, out)
+    deliver_bytes(r, call_at(gateway, clock, 0, 0), &bytes, n, out)
 }
 
 fn load_words(r: Replay, words: &[u32], n: usize) -> Replay {
+    let records = r.records;
     let k = words_within(n, words);
-    let loaded = device::load::load(&words[..k]);
-    let device = loaded.device;
-    let answer = loaded.answer;
-    let going = print_answer(answer, Entry::Absent, 0, false, &[]);
-    with_device(r, device, going)
+    let answered = lending::load(records, records_within(r.lent), &words[..k]);
+    after(r, answered, &[])
 }
 
 fn load(r: Replay, line: &[u8]) -> Replay {
@@ -202,7 +246,7 @@ fn load(r: Replay, line: &[u8]) -> Replay {
 
 fn check_bytes(bytes: &[u8], n: usize) -> bool {
     let k = within(n, bytes);
-    let number = frame::read::check_frame(&bytes[..k]);
+    let number = frame::read::folderpink_check_frame(&bytes[..k]);
     let mut text = io::buffer();
     let m = text::answer::put_check(&mut text, number);
     print(&text, m)
@@ -220,20 +264,33 @@ fn wrong(place: u64) -> bool {
     print(&text, n)
 }
 
+fn set(r: Replay, parameter: Parameter, n: usize) -> Replay {
+    let mut next = r;
+    match parameter {
+        Parameter::Room => {
+            next.room = n;
+        }
+        Parameter::Records => {
+            next.lent = n;
+        }
+    }
+    next
+}
+
 // One line, without its newline, with an output to lend.
 fn run(r: Replay, line: &[u8], out: &mut [u8]) -> Replay {
     let parsed = text::parse::parse(line);
     match parsed {
         Line::Load => load(r, line),
-        Line::Timed { act, clock, entry } => act_on(r, act, clock, entry, out),
+        Line::Timed { act, clock, entry } => act_on(r, act, clock, entry as usize, out),
         Line::Send {
             clock,
             entry,
             start,
-        } => send(r, clock, entry, line, start, out),
+        } => send(r, clock, entry as usize, line, start, out),
         Line::Deliver { clock, start } => deliver(r, clock, line, start, out),
         Line::Check { start } => with_going(r, check(line, start)),
-        Line::Room(room) => with_room(r, room),
+        Line::Set { parameter, n } => set(r, parameter, n),
         Line::Nothing => r,
         Line::Wrong => with_going(r, wrong(r.place)),
     }
@@ -251,15 +308,10 @@ fn run_line(r: Replay, line: &[u8]) -> Replay {
         return r;
     }
     let n = within(r.length, line);
-    let after = run_lent(r, &line[..n]);
-    let device = after.device;
-    Replay {
-        device: device,
-        room: after.room,
-        place: std::num::wrapping_add_u64(after.place, 1),
-        length: 0,
-        going: after.going,
-    }
+    let mut next = run_lent(r, &line[..n]);
+    next.place = std::num::wrapping_add_u64(next.place, 1);
+    next.length = 0;
+    next
 }
 
 // One byte more of the line; past the longest line it is skipped, and the line is then no call.
@@ -271,31 +323,17 @@ fn keep(line: &mut [u8], n: usize, byte: u8) -> usize {
     n
 }
 
-fn with_length(r: Replay, length: usize) -> Replay {
-    let device = r.device;
-    Replay {
-        device: device,
-        room: r.room,
-        place: r.place,
-        length: length,
-        going: r.going,
-    }
-}
-
-// One byte of the input.
-fn take_byte(r: Replay, byte: u8, line: &mut [u8]) -> Replay {
-    if byte == 10 {
-        return run_line(r, line);
-    }
-    let n = keep(line, r.length, byte);
-    with_length(r, n)
-}
-
+// The state is handed on once a line: it is large.
 fn take_bytes(r: Replay, bytes: &[u8], line: &mut [u8]) -> Replay {
     let mut after = r;
     let mut i = 0;
     while i < bytes.len() {
-        after = take_byte(after, bytes[i], line);
+        if bytes[i] == 10 {
+            after = run_line(after, line);
+        } else {
+            let n = keep(line, after.length, bytes[i]);
+            after.length = n;
+        }
         i += 1;
     }
     after
@@ -327,7 +365,9 @@ fn main() {
     // one byte more than the longest line, so that a longer one is seen
     let mut line = [0u8; 4097];
     let mut r = Replay {
-        device: device::load::new(),
+        records: [blank(); 70],
+        gateway: Gateway { last: 0, count: 0 },
+        lent: 64,
         room: 248,
         place: 1,
         length: 0,

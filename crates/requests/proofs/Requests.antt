@@ -1,16 +1,16 @@
--- The count of setup requests, over every list of calls on a device.
+-- The count of setup requests, over every list of calls on a gateway.
 use mathlib.Core.Path.{_≡_, refl, sym, ap, subst, _∙_}
 use mathlib.Core.Bool.{Bool, true, false, _&&_, cond}
 use mathlib.Core.List.{List, [], _∷_}
 use Prim.Native.Nat.{ℕ, suc, _+_, _≤_, _<_}
+use native.Mathlib.Nat.{not-suc-le-zero}
 use native.Mathlib.Omega.{arith}
 use lib.Dec.{eqb, lit≤}
-use lib.ListN.{length}
-use borrow.Author.Tests.{eqb-true, eqb-false}
+use borrow.Author.Tests.{ltb-true, eqb-true, eqb-false}
 use Rattle.frame.specs.Reading.{readingOf}
 use Rattle.frame.proofs.ReadBack.{round-trip}
 use Rattle.endpoint.specs.declared.Settings.{Settings}
-use Rattle.endpoint.specs.declared.Endpoint.{Endpoint}
+use Rattle.endpoint.specs.Endpoint.{Endpoint}
 use Rattle.endpoint.specs.declared.Answer.{Answer}
 use Rattle.endpoint.specs.Answers.{isDone}
 use Rattle.endpoint.specs.Time.{afterTick}
@@ -20,16 +20,15 @@ use Rattle.steps.specs.Calls.{Outcome}
 use Rattle.steps.specs.Steps as S
 use Rattle.steps.specs.Laws.{Carries, requestsIn, isStart}
 use Rattle.steps.proofs.CallLaws.{step-laws}
-use Rattle.steps.proofs.Dispatch.{cond-true, cond-false}
 use Rattle.steps.proofs.Keeps.{bcase}
-use Rattle.device.specs.declared.Device.{Device}
-use Rattle.device.specs.Tables.{endpointAt, unloaded}
-use Rattle.device.specs.Clock.{isReading, clockStep, afterClock}
-use Rattle.device.specs.Calls.{Result, result, actedOf, shownIn}
+use Rattle.records.specs.Records.{recordOf}
+use Rattle.gateway.specs.Tables.{Lent, lent, endpointAt, isTimely, clockStep, afterClock}
+use Rattle.gateway.specs.Loading.{loadedWith}
+use Rattle.gateway.specs.Calls.{Result, result, actedOf, shownIn}
 use Rattle.runs.specs.Steps.{Call, show, Step, load, call, callIn, isAt}
 use Rattle.runs.specs.Bus.{onBus}
-use Rattle.runs.proofs.Tables.{tick-keeps, like-tick, like-length, ticked-at, placed-here, placed-there}
-use Rattle.runs.proofs.Loaded.{Sound, sound-like, unloaded-sound, unloaded-none, loaded-sound, loaded-none}
+use Rattle.runs.proofs.Tables.{Whole, like-whole, tick-keeps, like-tick, ticked-at, placed-there}
+use Rattle.runs.proofs.Loaded.{none-whole, loaded-whole, loaded-none}
 use Rattle.runs.proofs.Reaching as A
 use Rattle.runs.proofs.Reaching.{and-false}
 use Rattle.requests.specs.Requests.{isRequestIn, isStartOf, countAfter, Watched, watched, afterStep, afterSteps}
@@ -58,73 +57,71 @@ added : (b : Bool) (count m : ℕ) → cond b 1 0 ≡ m → cond b (suc count) c
 added true count m h = omega arith
 added false count m h = omega arith
 
--- the table is sound, and the entry n keeps this count
-record Held (n : ℕ) (d : Device) (count : ℕ) : Type 0 where
-  sound : Sound d
-  same : endpointAt (d .endpoints) n .setup .requests ≡ count
+-- the slice is whole, and the entry n keeps this count
+record Held (n : ℕ) (d : Lent) (count : ℕ) : Type 0 where
+  whole : Whole d
+  same : n < d .gateway .count → endpointAt d n .setup .requests ≡ count
   most : count ≤ requestLimit
 
--- only a start is a start, on the endpoint and on the device
-starts : (n : ℕ) {d : Device} {c : Call} {by : S.Call} {k : ℕ} → A.For d c by k
+-- only a start is a start, on the endpoint and on the gateway
+starts : (n : ℕ) {d : Lent} {c : Call} {by : S.Call} {k : ℕ} → A.For d c by k
     → isStartOf n c ≡ (isStart by && eqb k n)
 starts n (A.acts a k) = refl
 starts n (A.sends k v) = refl
 starts n (A.delivers s f from to k i h) = refl
 
-module _ (n : ℕ) (d : Device) (count : ℕ) (H : Held n d count) (t : ℕ) where
+module _ (n : ℕ) (d : Lent) (count : ℕ) (H : Held n d count) (t : ℕ) where
   ticked : Held n (clockStep t d) count
   ticked = record {
-    sound = sound-like (like-tick d t) (H .sound);
-    same = ap (λ (e : Endpoint). e .setup .requests) (ticked-at d t n)
-        ∙ ap (λ (s : Settings × ℕ). s .1) (tick-keeps (endpointAt (d .endpoints) n) t) ∙ H .same;
+    whole = like-whole (like-tick d t) (H .whole);
+    same = λ h. let k : n < d .gateway .count = rw (like-tick d t .counts) at h in
+        ap (λ (e : Endpoint). e .setup .requests) (ticked-at d t n (H .whole) k)
+        ∙ ap (λ (s : Settings × ℕ). s .1) (tick-keeps (endpointAt d n) t) ∙ H .same k;
     most = H .most;
   }
 
   clocked : Held n (afterClock t d) count
-  clocked =
-      bcase (isReading (d .last) t)
-      (λ h. subst (λ (x : Device). Held n x count) (sym (cond-true (isReading (d .last) t) (clockStep t d) d h)) ticked)
-      (λ h. subst (λ (x : Device). Held n x count) (sym (cond-false (isReading (d .last) t) (clockStep t d) d h)) H)
+  clocked = bcase (isTimely d t) (λ h. rw h ticked) (λ h. rw h H)
 
   module _ (room : ℕ) where
     abbrev After : Call → Type 0
-    After c = Held n (callIn d t room c .device) (countAfter n (call t room c) (callIn d t room c) count)
+    After c = Held n (callIn d t room c .lent) (countAfter n (call t room c) (callIn d t room c) count)
 
     -- what holds of what the call comes to holds of the call
     comes : (c : Call) (r : Result) → callIn d t room c ≡ r
-        → Held n (r .device) (countAfter n (call t room c) r count) → After c
+        → Held n (r .lent) (countAfter n (call t room c) r count) → After c
     comes c r q h =
-        subst (λ (x : Result). Held n (x .device) (countAfter n (call t room c) x count)) (sym q) h
+        subst (λ (x : Result). Held n (x .lent) (countAfter n (call t room c) x count)) (sym q) h
 
     -- the clock step at most: no start is done, nothing is put on the bus
-    idle : (c : Call) (r : Result) → callIn d t room c ≡ r → Held n (r .device) count
+    idle : (c : Call) (r : Result) → callIn d t room c ≡ r → Held n (r .lent) count
         → (isStartOf n c && isDone (r .answer)) ≡ false → onBus (r .writes) ≡ [] → After c
     idle c r q k s w =
         let none : countAfter n (call t room c) r count ≡ count = rw (s, w, empty, and-false (isAt (r .entry) n)) in
-        comes c r q (subst (Held n (r .device)) (sym none) k)
+        comes c r q (subst (Held n (r .lent)) (sym none) k)
 
     -- ---- a connection's step
     module _ (c : Call) (by : S.Call) (k : ℕ) (names : A.For d c by k)
         (is : callIn d t room c ≡ actedOf (A.does d t by k) t k d) (live : A.Live d t k) where
       abbrev e : Endpoint
-      e = endpointAt (d .endpoints) k
+      e = endpointAt d k
 
       abbrev o : Outcome
       o = A.does d t by k
 
-      still-sound : Sound (actedOf o t k d .device)
-      still-sound = sound-like (A.step-like d t by k) (H .sound)
+      still-whole : Whole (actedOf o t k d .lent)
+      still-whole = like-whole (A.step-like d t by k) (H .whole)
 
       -- of another connection
       other : eqb k n ≡ false → After c
       other b =
           let q : countAfter n (call t room c) (actedOf o t k d) count ≡ count =
           rw (starts n names, b, and-false (isStart by)) in
-          comes c (actedOf o t k d) is (subst (Held n (actedOf o t k d .device)) (sym q) (record {
-            sound = still-sound;
-            same = ap (λ (x : Endpoint). x .setup .requests)
-                (placed-there (clockStep t d) k n (o .endpoint) (λ i. eqb-false k n b (sym i)))
-                ∙ ticked .same;
+          comes c (actedOf o t k d) is (subst (Held n (actedOf o t k d .lent)) (sym q) (record {
+            whole = still-whole;
+            same = λ h. ap (λ (x : Endpoint). x .setup .requests)
+                (placed-there (clockStep t d) k n (recordOf (o .endpoint)) (λ i. eqb-false k n b (sym i)))
+                ∙ ticked .same h;
             most = H .most;
           }))
 
@@ -133,17 +130,15 @@ module _ (n : ℕ) (d : Device) (count : ℕ) (H : Held n d count) (t : ℕ) whe
       own b =
           let i = eqb-true k n b in
           let kept : e .setup .requests ≡ count =
-          ap (λ (j : ℕ). endpointAt (d .endpoints) j .setup .requests) i ∙ H .same in
+          ap (λ (j : ℕ). endpointAt d j .setup .requests) i ∙ H .same (rw i at (live .counted)) in
           let more = added (isRequestIn (readingOf (onBus (o .writes)))) count (requestsIn (o .writes))
           (count-back e (o .writes) (step-laws .carries e t by)) in
           let q : countAfter n (call t room c) (actedOf o t k d) count ≡ o .endpoint .setup .requests =
           rw (starts n names, b, and-true (isStart by), more, ← kept) (sym (step-laws .counts e t by)) in
-          let l : k < length (clockStep t d .endpoints) =
-          subst (λ (m : ℕ). k < m) (sym (like-length (like-tick d t) ∙ H .sound .length8)) (live .within) in
-          comes c (actedOf o t k d) is (subst (Held n (actedOf o t k d .device)) (sym q) (record {
-            sound = still-sound;
-            same = ap (λ (j : ℕ). endpointAt (actedOf o t k d .device .endpoints) j .setup .requests) (sym i)
-                ∙ ap (λ (x : Endpoint). x .setup .requests) (placed-here (clockStep t d) k (o .endpoint) l);
+          comes c (actedOf o t k d) is (subst (Held n (actedOf o t k d .lent)) (sym q) (record {
+            whole = still-whole;
+            same = λ h. ap (λ (j : ℕ). endpointAt (actedOf o t k d .lent) j .setup .requests) (sym i)
+                ∙ ap (λ (x : Endpoint). x .setup .requests) (A.step-at d t by k live);
             most = step-laws .limited e t by (subst (λ (m : ℕ). m ≤ requestLimit) (sym kept) (H .most));
           }))
 
@@ -156,23 +151,24 @@ module _ (n : ℕ) (d : Device) (count : ℕ) (H : Held n d count) (t : ℕ) whe
     called {c = c} (A.nowhere a x s q) =
         idle c (result a x nothing false (afterClock t d)) q clocked (not-started s) refl
     called (A.showing k q) =
-        idle (show k) (shownIn (afterTick (endpointAt (d .endpoints) k) t) t k d) q ticked refl refl
+        idle (show k) (shownIn (afterTick (endpointAt d k) t) t k d) q ticked refl refl
     called {c = c} (A.stepping by k f q l) = bcase (eqb k n) (own c by k f q l) (other c by k f q l)
 
 -- ---- every list
-step : (n : ℕ) (x : Watched) (s : Step) → Held n (x .device) (x .count)
-    → Held n (afterStep n x s .device) (afterStep n x s .count)
-step n x (load ws) k = record { sound = loaded-sound ws; same = loaded-none ws n; most = lit≤ tt }
-step n x (call t room c) k = called n (x .device) (x .count) k t room (A.reach (x .device) t room c)
+step : (n : ℕ) (x : Watched) (s : Step) → Held n (x .lent) (x .count)
+    → Held n (afterStep n x s .lent) (afterStep n x s .count)
+step n x (load ws rs) k =
+    record { whole = loaded-whole ws rs; same = loaded-none ws rs n; most = lit≤ tt }
+step n x (call t room c) k = called n (x .lent) (x .count) k t room (A.reach (x .lent) t room c)
 
-steps : (n : ℕ) (l : List Step) (x : Watched) → Held n (x .device) (x .count)
-    → Held n (afterSteps n x l .device) (afterSteps n x l .count)
+steps : (n : ℕ) (l : List Step) (x : Watched) → Held n (x .lent) (x .count)
+    → Held n (afterSteps n x l .lent) (afterSteps n x l .count)
 unfolding afterSteps
 steps n [] x k = k
 steps n (s ∷ l) x k = steps n l (afterStep n x s) (step n x s k)
 
 pub request-count : RequestCount
-request-count n l =
-    let h = steps n l (watched unloaded 0)
-    (record { sound = unloaded-sound; same = unloaded-none n; most = lit≤ tt }) in
-    (h .same, h .most)
+request-count n rs l i =
+    let h = steps n l (watched (lent (loadedWith 0) rs) 0)
+    (record { whole = none-whole rs; same = λ k. absurd (not-suc-le-zero k); most = lit≤ tt }) in
+    (h .same (ltb-true n _ i), h .most)

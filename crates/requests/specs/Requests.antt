@@ -1,7 +1,7 @@
--- One device over a list of calls, loading among them (document 02, note 3): the count of setup requests that a
+-- One gateway over a list of calls, loading among them (document 02, note 3): the count of setup requests that a
 -- connection keeps is the count of those that it wrote since its last start or loading, and at most 45.
 use mathlib.Core.Path.{_≡_}
-use mathlib.Core.Bool.{Bool, false, _&&_, cond}
+use mathlib.Core.Bool.{Bool, true, false, _&&_, cond}
 use mathlib.Core.List.{List, [], _∷_}
 use Prim.Native.Nat.{ℕ, suc, _≤_}
 use lib.Dec.{eqb}
@@ -12,9 +12,10 @@ use Rattle.endpoint.specs.Answers.{isDone}
 use Rattle.endpoint.specs.Due.{requestLimit}
 use Rattle.steps.specs.Frames.{isRequest}
 use Rattle.steps.specs.Steps.{begins}
-use Rattle.device.specs.declared.Device.{Device}
-use Rattle.device.specs.Tables.{endpointAt, unloaded}
-use Rattle.device.specs.Calls.{Result}
+use Rattle.records.specs.declared.Record.{Record}
+use Rattle.gateway.specs.Tables.{Lent, lent, endpointAt, isEntry}
+use Rattle.gateway.specs.Loading.{loadedWith}
+use Rattle.gateway.specs.Calls.{Result}
 use Rattle.runs.specs.Steps.{Call, act, send, deliver, show, Step, load, call, stepIn, isAt}
 use Rattle.runs.specs.Bus.{onBus}
 
@@ -36,30 +37,31 @@ wroteRequest n r = isAt (r .entry) n && isRequestIn (readingOf (onBus (r .writes
 
 -- a loading begins anew, and a start of the entry that is done; each request written adds one
 abbrev pub countAfter : ℕ → Step → Result → ℕ → ℕ
-countAfter n (load ws) r count = 0
+countAfter n (load ws rs) r count = 0
 countAfter n (call t room c) r count =
     cond (isStartOf n c && isDone (r .answer)) 0 (cond (wroteRequest n r) (suc count) count)
 
--- ---- a device, and the count of one entry
+-- ---- a gateway, and the count of one entry
 pub record Watched : Type 0 where
-  pub device : Device
+  pub lent : Lent
   pub count : ℕ
 
-abbrev pub watched : Device → ℕ → Watched
-watched d count = record { device = d; count = count }
+abbrev pub watched : Lent → ℕ → Watched
+watched d count = record { lent = d; count = count }
 
 abbrev pub afterStep : ℕ → Watched → Step → Watched
-afterStep n x s = let r = stepIn (x .device) s in watched (r .device) (countAfter n s r (x .count))
+afterStep n x s = let r = stepIn (x .lent) s in watched (r .lent) (countAfter n s r (x .count))
 
 unfoldable pub afterSteps : ℕ → Watched → List Step → Watched
 afterSteps n x [] = x
 afterSteps n x (s ∷ l) = afterSteps n (afterStep n x s) l
 
--- for every entry, of a device never loaded, after every list
-abbrev pub watchedAfter : ℕ → List Step → Watched
-watchedAfter n l = afterSteps n (watched unloaded 0) l
+-- of a gateway never loaded, whatever records it is lent, after every list
+abbrev pub watchedAfter : ℕ → List Record → List Step → Watched
+watchedAfter n rs l = afterSteps n (watched (lent (loadedWith 0) rs) 0) l
 
+-- for every entry of the table that is left
 abbrev pub RequestCount : Type 0
-RequestCount = (n : ℕ) (l : List Step)
-    → (endpointAt (watchedAfter n l .device .endpoints) n .setup .requests ≡ watchedAfter n l .count)
-    × (watchedAfter n l .count ≤ requestLimit)
+RequestCount = (n : ℕ) (rs : List Record) (l : List Step) → isEntry (watchedAfter n rs l .lent) n ≡ true
+    → (endpointAt (watchedAfter n rs l .lent) n .setup .requests ≡ watchedAfter n rs l .count)
+    × (watchedAfter n rs l .count ≤ requestLimit)

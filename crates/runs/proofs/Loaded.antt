@@ -1,38 +1,38 @@
--- What a device just loaded holds: settings in their ranges, each connection in Close, no CID twice.
+-- What a gateway just loaded holds: settings in their ranges, each connection in Close, no CID twice.
 use mathlib.Core.Path.{_≡_, refl, sym, ap, subst, _∙_}
-use mathlib.Core.Bool.{Bool, true, false, _&&_, not, cond, false≢true}
+use mathlib.Core.Bool.{true, false, _&&_, not, false≢true}
 use mathlib.Core.List.{List}
 use Prim.Native.Nat.{ℕ, zero, suc, _/_, _%_, _≤_, _<_}
 use native.Mathlib.Nat.{not-suc-le-zero}
 use native.Mathlib.Omega.{arith}
 use native.Mathlib.Decide.{decLt}
 use lib.Dec.{eqb, ltb, leb}
-use lib.ListN.{length, getD, replicate, length-set, length-replicate}
-use lib.Seq.{getD-set-same, getD-set-other}
-use borrow.Author.Tests.{leb-true, eqb-false, not-true}
+use lib.ListN.{length}
+use borrow.Author.Tests.{ltb-true, ltb-false, le-ltb, leb-true, eqb-false, not-true}
 use mathlib.Mathlib.Data.Bool.Basic.{and-elim-left as and-left, and-elim-right as and-right}
 use Rattle.endpoint.specs.declared.Settings.{Settings}
-use Rattle.endpoint.specs.declared.Endpoint.{Endpoint}
-use Rattle.endpoint.specs.declared.Timestamp.the-variants.{Never}
+use Rattle.endpoint.specs.Endpoint.{Endpoint}
 use Rattle.endpoint.specs.declared.Reason.the-variants as R
+use Rattle.endpoint.specs.declared.Answer.{Answer}
 use Rattle.endpoint.specs.declared.Answer.the-variants.{Done, Dropped}
 use Rattle.endpoint.specs.Answers.{isDone}
 use Rattle.transitions.specs.ByCall.{freshOf}
-use Rattle.steps.specs.Laws.{SettingsFit, Ticks}
+use Rattle.steps.specs.Laws.{Ticks}
 use Rattle.steps.proofs.Keeps.{bcase}
 use Rattle.settings.specs.Words.{restOf, isTicks, hasKinds}
 use Rattle.settings.specs.Lists.{wordOf, connectionAt, settingsAt, isConnectionAt, isNewAt, areConnections, countOf}
 use Rattle.settings.specs.Lists.{isList}
-use Rattle.settings.proofs.Lists.{count-le, are-connections}
-use Rattle.device.specs.declared.Device.{Device}
-use Rattle.device.specs.declared.Entry.the-variants.{At}
-use Rattle.device.specs.declared.load.Loaded.{Loaded}
-use Rattle.device.specs.Tables.{noSettings, endpointAt, entryOf, freshUpTo, unloaded}
-use Rattle.device.specs.Loading.{loadedOf}
-use Rattle.runs.proofs.Tables.{Like, like-at, like-length, entry-found}
+use Rattle.settings.proofs.Lists.{are-connections}
+use Rattle.records.specs.declared.Record.{Record}
+use Rattle.records.specs.Records.{endpointOf}
+use Rattle.records.proofs.Records.{records}
+use Rattle.lent.specs.First.{filled, length-filled, filled-below}
+use Rattle.gateway.specs.Tables.{Lent, lent, blankRecord, endpointAt, isEntry, placeOf}
+use Rattle.gateway.specs.Loading.{loadedWith, freshAt, Loaded, loaded, loadedOf}
+use Rattle.runs.proofs.Tables.{Whole, place-has}
 
 -- ---- lists
-are-at : (ws : List ℕ) (n i : ℕ) → areConnections ws n ≡ true → i < n
+pub are-at : (ws : List ℕ) (n i : ℕ) → areConnections ws n ≡ true → i < n
     → (isConnectionAt ws i ≡ true) × (isNewAt ws i i ≡ true)
 unfolding areConnections
 are-at ws zero i h k = absurd (not-suc-le-zero k)
@@ -45,7 +45,7 @@ are-at ws (suc n) i h k =
       )
     ]
 
-new-at : (ws : List ℕ) (i n j : ℕ) → isNewAt ws i n ≡ true → j < n → connectionAt ws i ≡ connectionAt ws j → ⊥
+pub new-at : (ws : List ℕ) (i n j : ℕ) → isNewAt ws i n ≡ true → j < n → connectionAt ws i ≡ connectionAt ws j → ⊥
 unfolding isNewAt
 new-at ws i zero j h k = absurd (not-suc-le-zero k)
 new-at ws i (suc n) j h k =
@@ -91,174 +91,95 @@ in-ranges ws i h =
       age = ticks _ (and-right (isTicks (restOf (wordOf ws i 4))) _ k);
     }
 
--- every word's rest has 28 bits
-settings-fit : (ws : List ℕ) (i : ℕ) → SettingsFit (settingsAt ws i)
-unfolding settingsAt
-settings-fit ws i = record {
-  connection = omega arith;
-  interval = omega arith;
-  roundtrip = omega arith;
-  age = omega arith;
-  words = omega arith;
-  station = omega arith;
-}
-
 -- ---- the table
-fresh-length : (ws : List ℕ) (n : ℕ) → length (freshUpTo ws n) ≡ 8
-unfolding freshUpTo
-fresh-length ws zero = length-replicate 8 (freshOf noSettings)
-fresh-length ws (suc n) = length-set (freshUpTo ws n) n (freshOf (settingsAt ws n)) ∙ fresh-length ws n
-
-getD-same : {A : Type 0} (n i : ℕ) (a : A) → getD (replicate n a) i a ≡ a
-getD-same zero i a = refl
-getD-same (suc n) zero a = refl
-getD-same (suc n) (suc i) a = getD-same n i a
-
-fresh-at : (ws : List ℕ) (n i : ℕ) → n ≤ 8 → i < n → endpointAt (freshUpTo ws n) i ≡ freshOf (settingsAt ws i)
-unfolding freshUpTo endpointAt
-fresh-at ws zero i h k = absurd (not-suc-le-zero k)
-fresh-at ws (suc n) i h k =
-    let l : n < length (freshUpTo ws n) = let z = fresh-length ws n in omega arith in
-    elim (decLt i n) [
-      | yes g ↦ getD-set-other (freshUpTo ws n) n i (freshOf (settingsAt ws n)) (freshOf noSettings)
-          (λ e. absurd (omega (arith, e)))
-          ∙ fresh-at ws n i (omega arith) g
-      | no g ↦ let e : n ≡ i = omega arith in ap (λ (j : ℕ). getD (freshUpTo ws (suc n)) j (freshOf noSettings)) (sym e)
-          ∙ getD-set-same (freshUpTo ws n) n (freshOf (settingsAt ws n)) (freshOf noSettings) l
-          ∙ ap (λ (j : ℕ). freshOf (settingsAt ws j)) e
-    ]
-
--- past the connections
-fresh-rest : (ws : List ℕ) (n i : ℕ) → n ≤ i → endpointAt (freshUpTo ws n) i ≡ freshOf noSettings
-unfolding freshUpTo endpointAt
-fresh-rest ws zero i h = getD-same 8 i (freshOf noSettings)
-fresh-rest ws (suc n) i h =
-    getD-set-other (freshUpTo ws n) n i (freshOf (settingsAt ws n)) (freshOf noSettings)
-    (λ e. absurd (omega (arith, e))) ∙ fresh-rest ws n i (omega arith)
-
--- no place has written a request
-fresh-none : (ws : List ℕ) (n i : ℕ) → n ≤ 8 → endpointAt (freshUpTo ws n) i .setup .requests ≡ 0
-fresh-none ws n i h =
-    elim (decLt i n) [
-      | yes g ↦ ap (λ (e : Endpoint). e .setup .requests) (fresh-at ws n i h g)
-      | no g ↦ ap (λ (e : Endpoint). e .setup .requests) (fresh-rest ws n i (omega arith))
-    ]
-
--- ---- a device that was loaded with answer 0
-chosen : (b : Bool) (x y : Loaded) → isDone (y .answer) ≡ false → cond b x y .answer ≡ Done → b ≡ true
-chosen true x y n h = refl
-chosen false x y n h = absurd (false≢true (sym n ∙ ap isDone h))
-
-is-list : (ws : List ℕ) → loadedOf ws .answer ≡ Done → isList ws ≡ true
-is-list ws h = chosen (isList ws) _ _ refl h
-
--- eight places, and settings whose numbers fit into the words of setup requests
-pub record Sound (d : Device) : Type 0 where
-  pub length8 : length (d .endpoints) ≡ 8
-  pub fits : (i : ℕ) → i < d .count → i < 8 → SettingsFit (endpointAt (d .endpoints) i .settings)
-
-pub sound-like : {d d′ : Device} → Like d′ d → Sound d → Sound d′
-sound-like {d} {d′} l s = record {
-  length8 = like-length l ∙ s .length8;
-  fits = λ i c k. subst SettingsFit (sym (like-at l i)) (s .fits i (subst (λ (m : ℕ). i < m) (l .counts) c) k);
-}
-
--- what holds of the CID's entry n
-pub record Table (d : Device) (cid n : ℕ) : Type 0 where
-  pub entry : entryOf cid (d .count) (d .endpoints) ≡ At n
-  pub sound : Sound d
-  pub counted : n < d .count
-  pub within : n < 8
-  pub fresh : endpointAt (d .endpoints) n ≡ freshOf (endpointAt (d .endpoints) n .settings)
-  pub ticks : Ticks (endpointAt (d .endpoints) n .settings)
-  pub has : endpointAt (d .endpoints) n .settings .connection ≡ cid
-  pub others : (i : ℕ) → i < d .count → i < 8 → (i ≡ n → ⊥) → endpointAt (d .endpoints) i .settings .connection ≡ cid
-      → ⊥
-
-tableOf : List ℕ → Device
-tableOf ws = record { last = Never; count = countOf ws; endpoints = freshUpTo ws (countOf ws) }
+tableOf : List ℕ → List Record → Lent
+tableOf ws rs = lent (loadedWith (countOf ws)) (filled (freshAt ws) (countOf ws) rs)
 
 same-cid : (ws : List ℕ) (i : ℕ) → settingsAt ws i .connection ≡ connectionAt ws i
 unfolding settingsAt connectionAt
 same-cid ws i = refl
 
-table-sound : (ws : List ℕ) → isList ws ≡ true → Sound (tableOf ws)
-unfolding tableOf
-table-sound ws l = record {
-  length8 = fresh-length ws (countOf ws);
-  fits = λ i k k8. subst SettingsFit
-      (sym (ap (λ (e : Endpoint). e .settings) (fresh-at ws (countOf ws) i (count-le ws l) k))) (settings-fit ws i);
-}
+-- what holds of the CID's entry n
+pub record Table (d : Lent) (cid n : ℕ) : Type 0 where
+  pub entry : placeOf cid d ≡ n
+  pub whole : Whole d
+  pub counted : n < d .gateway .count
+  pub fresh : endpointAt d n ≡ freshOf (endpointAt d n .settings)
+  pub ticks : Ticks (endpointAt d n .settings)
+  pub has : endpointAt d n .settings .connection ≡ cid
+  pub others : (i : ℕ) → i < d .gateway .count → (i ≡ n → ⊥) → endpointAt d i .settings .connection ≡ cid → ⊥
 
-loaded-table : (ws : List ℕ) (cid n : ℕ) → isList ws ≡ true
-    → entryOf cid (countOf ws) (freshUpTo ws (countOf ws)) ≡ At n
-    → Table (tableOf ws) cid n
-unfolding tableOf
-loaded-table ws cid n l h =
-    let es = freshUpTo ws (countOf ws) in
-    let c8 = count-le ws l in
-    let f = entry-found cid (countOf ws) n es h in
-    let at : (i : ℕ) → i < countOf ws → endpointAt es i ≡ freshOf (settingsAt ws i) =
-    λ i k. fresh-at ws (countOf ws) i c8 k in
-    let set-at : (i : ℕ) → i < countOf ws → endpointAt es i .settings ≡ settingsAt ws i =
-    λ i k. ap (λ (e : Endpoint). e .settings) (at i k) in
-    let cid-at : (i : ℕ) → i < countOf ws → endpointAt es i .settings .connection ≡ connectionAt ws i =
-    λ i k. ap (λ (s : Settings). s .connection) (set-at i k) ∙ same-cid ws i in
-    record {
-      entry = h;
-      sound = table-sound ws l;
-      counted = f .counted;
-      within = let z = f .counted in omega arith;
-      fresh = at n (f .counted) ∙ ap freshOf (sym (set-at n (f .counted)));
-      ticks = subst Ticks (sym (set-at n (f .counted)))
-          (in-ranges ws n (are-at ws (countOf ws) n (are-connections ws l) (f .counted) .0));
-      has = f .has;
-      others = λ i k k8 ne q. unique ws (countOf ws) i n (are-connections ws l) k (f .counted) ne
-          (sym (cid-at i k) ∙ q ∙ sym (f .has) ∙ cid-at n (f .counted));
-    }
+-- a gateway of no connections: never loaded, or after 18 or 2
+pub none-whole : (rs : List Record) → Whole (lent (loadedWith 0) rs)
+none-whole rs = le-ltb (length rs) 0 (omega arith)
 
-loaded-is : (ws : List ℕ) → isList ws ≡ true → loadedOf ws .device ≡ tableOf ws
-unfolding tableOf
-loaded-is ws h =
-    ap (λ (b : Bool). cond {A = Loaded} b (record { answer = Done; device = tableOf ws })
-    (record { answer = Dropped R.Settings; device = unloaded }) .device) h
+-- of a right list, in a slice that is long enough for it
+module _ (ws : List ℕ) (rs : List Record) (l : isList ws ≡ true) (long : ltb (length rs) (countOf ws) ≡ false) where
+  table-whole : Whole (tableOf ws rs)
+  unfolding tableOf
+  table-whole = ap (λ (n : ℕ). ltb n (countOf ws)) (length-filled (freshAt ws) (countOf ws) rs) ∙ long
 
-pub loaded : (ws : List ℕ) (cid n : ℕ) → loadedOf ws .answer ≡ Done
-    → entryOf cid (loadedOf ws .device .count) (loadedOf ws .device .endpoints) ≡ At n
-    → Table (loadedOf ws .device) cid n
-unfolding tableOf
-loaded ws cid n d h =
-    let l = is-list ws d in
-    let q = loaded-is ws l in
-    subst (λ (x : Device). Table x cid n) (sym q)
-    (loaded-table ws cid n l (ap (λ (x : Device). entryOf cid (x .count) (x .endpoints)) (sym q) ∙ h))
+  fresh-at : (i : ℕ) → i < countOf ws → endpointAt (tableOf ws rs) i ≡ freshOf (settingsAt ws i)
+  unfolding tableOf endpointAt
+  fresh-at i h =
+      let k : i < length rs = let z = ltb-false (length rs) (countOf ws) long in omega arith in
+      ap endpointOf (filled-below (freshAt ws) (countOf ws) i rs blankRecord h k)
+      ∙ records .back (freshOf (settingsAt ws i)) (λ q. refl)
 
--- ---- a device that was loaded, with answer 0 or 18, or never
-pub unloaded-sound : Sound unloaded
-unfolding unloaded
-unloaded-sound = record {
-  length8 = length-replicate 8 (freshOf noSettings);
-  fits = λ i k. absurd (not-suc-le-zero k);
-}
+  settings-at : (i : ℕ) → i < countOf ws → endpointAt (tableOf ws rs) i .settings ≡ settingsAt ws i
+  settings-at i h = ap (λ (e : Endpoint). e .settings) (fresh-at i h)
 
-pub unloaded-none : (i : ℕ) → endpointAt (unloaded .endpoints) i .setup .requests ≡ 0
-unfolding unloaded endpointAt
-unloaded-none i = ap (λ (e : Endpoint). e .setup .requests) (getD-same 8 i (freshOf noSettings))
+  cid-at : (i : ℕ) → i < countOf ws → endpointAt (tableOf ws rs) i .settings .connection ≡ connectionAt ws i
+  cid-at i h = ap (λ (s : Settings). s .connection) (settings-at i h) ∙ same-cid ws i
 
-not-loaded : (ws : List ℕ) → isList ws ≡ false → loadedOf ws .device ≡ unloaded
-unfolding tableOf
-not-loaded ws h =
-    ap (λ (b : Bool). cond {A = Loaded} b (record { answer = Done; device = tableOf ws })
-    (record { answer = Dropped R.Settings; device = unloaded }) .device) h
+  table-at : (cid n : ℕ) → placeOf cid (tableOf ws rs) ≡ n → n < countOf ws → Table (tableOf ws rs) cid n
+  unfolding tableOf
+  table-at cid n h k =
+      let d = tableOf ws rs in
+      let has : endpointAt d n .settings .connection ≡ cid = rw h at (place-has cid d table-whole (rw h k)) in
+      record {
+        entry = h;
+        whole = table-whole;
+        counted = k;
+        fresh = fresh-at n k ∙ ap freshOf (sym (settings-at n k));
+        ticks = subst Ticks (sym (settings-at n k))
+            (in-ranges ws n (are-at ws (countOf ws) n (are-connections ws l) k .0));
+        has = has;
+        others = λ i j ne q. unique ws (countOf ws) i n (are-connections ws l) j k ne
+            (sym (cid-at i j) ∙ q ∙ sym has ∙ cid-at n k);
+      }
 
-pub loaded-sound : (ws : List ℕ) → Sound (loadedOf ws .device)
-loaded-sound ws =
-    bcase (isList ws) (λ l. subst Sound (sym (loaded-is ws l)) (table-sound ws l))
-    (λ l. subst Sound (sym (not-loaded ws l)) unloaded-sound)
+-- ---- a loading: done, or refused and of no connections
+module _ (ws : List ℕ) (rs : List Record) where
+  loads : (P : Loaded → Type 0)
+      → (isList ws ≡ true → ltb (length rs) (countOf ws) ≡ false → P (loaded Done (tableOf ws rs)))
+      → ((a : Answer) → isDone a ≡ false → P (loaded a (lent (loadedWith 0) rs)))
+      → P (loadedOf ws rs)
+  unfolding tableOf
+  loads P done refused =
+      bcase (isList ws)
+      (λ l. bcase (ltb (length rs) (countOf ws)) (λ s. rw (l, s) (refused (Dropped R.Buffer) refl))
+      (λ s. rw (l, s) (done l s)))
+      (λ l. rw l (refused (Dropped R.Settings) refl))
 
-pub loaded-none : (ws : List ℕ) (i : ℕ) → endpointAt (loadedOf ws .device .endpoints) i .setup .requests ≡ 0
-unfolding tableOf
-loaded-none ws i =
-    let at : Device → ℕ = λ d. endpointAt (d .endpoints) i .setup .requests in
-    bcase (isList ws) (λ l. ap at (loaded-is ws l) ∙ fresh-none ws (countOf ws) i (count-le ws l))
-    (λ l. ap at (not-loaded ws l) ∙ unloaded-none i)
+  pub loaded-table : (cid : ℕ) → loadedOf ws rs .answer ≡ Done
+      → isEntry (loadedOf ws rs .lent) (placeOf cid (loadedOf ws rs .lent)) ≡ true
+      → Table (loadedOf ws rs .lent) cid (placeOf cid (loadedOf ws rs .lent))
+  unfolding tableOf
+  loaded-table cid =
+      loads (λ (x : Loaded). x .answer ≡ Done → isEntry (x .lent) (placeOf cid (x .lent)) ≡ true
+      → Table (x .lent) cid (placeOf cid (x .lent)))
+      (λ l s d h. table-at ws rs l s cid (placeOf cid (tableOf ws rs)) refl (ltb-true _ (countOf ws) h))
+      (λ a n d. absurd (false≢true (sym n ∙ ap isDone d)))
+
+  pub loaded-whole : Whole (loadedOf ws rs .lent)
+  loaded-whole = loads (λ (x : Loaded). Whole (x .lent)) (table-whole ws rs) (λ a n. none-whole rs)
+
+  -- no connection has written a request
+  pub loaded-none : (i : ℕ) → i < loadedOf ws rs .lent .gateway .count
+      → endpointAt (loadedOf ws rs .lent) i .setup .requests ≡ 0
+  unfolding tableOf
+  loaded-none i =
+      loads (λ (x : Loaded). i < x .lent .gateway .count → endpointAt (x .lent) i .setup .requests ≡ 0)
+      (λ l s h. ap (λ (e : Endpoint). e .setup .requests) (fresh-at ws rs l s i h))
+      (λ a n h. absurd (not-suc-le-zero h))

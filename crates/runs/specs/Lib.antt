@@ -1,3 +1,3 @@
--- Steps on a device and the bytes between devices, in reading order.
+-- Steps on a gateway and the bytes between gateways, in reading order.
 pub mod Steps
 pub mod Bus

@@ -1,15 +1,15 @@
--- Every step on a device, loading or another call, and what it comes to as the contracts of `device` have it.
+-- Every step on a gateway, loading or another call, and what it comes to as the contracts of `gateway` have it.
 use mathlib.Core.Bool.{Bool, false}
 use mathlib.Core.List.{List}
 use Prim.Native.Nat.{ℕ}
 use lib.Dec.{eqb}
 use Rattle.steps.specs.Frames.{nothing}
 use Rattle.steps.specs.Steps.{Act, start, stop, restart, setNotReady}
-use Rattle.device.specs.declared.Device.{Device}
-use Rattle.device.specs.declared.Entry.{Entry}
-use Rattle.device.specs.declared.Entry.the-variants.{Absent, At}
-use Rattle.device.specs.Loading.{loadedOf}
-use Rattle.device.specs.Calls.{Result, result, startIn, sendIn, stopIn, restartIn, setNotReadyIn, showIn, deliverIn}
+use Rattle.records.specs.declared.Record.{Record}
+use Rattle.gateway.specs.Tables.{Lent}
+use Rattle.gateway.specs.Loading.{loadedOf}
+use Rattle.gateway.specs.Calls.{Entry, Absent, At, Result, result, startIn, sendIn, stopIn, restartIn, setNotReadyIn}
+use Rattle.gateway.specs.Calls.{showIn, deliverIn}
 
 -- every call but load, for whatever entry
 pub data Call : Type 0 where
@@ -18,26 +18,27 @@ pub data Call : Type 0 where
   deliver : List ℕ → Call
   show : ℕ → Call
 
--- a settings list that is loaded; or a call with its clock reading and the length of the output lent to it
+-- a settings list that is loaded into whatever slice of records; or a call with its clock reading and the length of
+-- the output lent to it, which is lent the slice as the last step left it
 pub data Step : Type 0 where
-  load : List ℕ → Step
+  load : List ℕ → List Record → Step
   call : (clock room : ℕ) → Call → Step
 
-abbrev pub actIn : Device → ℕ → ℕ → Act → ℕ → Result
+abbrev pub actIn : Lent → ℕ → ℕ → Act → ℕ → Result
 actIn d t room start n = startIn d t n
 actIn d t room stop n = stopIn d t room n
 actIn d t room restart n = restartIn d t n
 actIn d t room (setNotReady b) n = setNotReadyIn d t n b
 
-abbrev pub callIn : Device → ℕ → ℕ → Call → Result
+abbrev pub callIn : Lent → ℕ → ℕ → Call → Result
 callIn d t room (act a n) = actIn d t room a n
 callIn d t room (send n value) = sendIn d t room n value
 callIn d t room (deliver s) = deliverIn d t room s
 callIn d t room (show n) = showIn d t room n
 
 -- a load has no entry and writes nothing
-abbrev pub stepIn : Device → Step → Result
-stepIn d (load ws) = result (loadedOf ws .answer) Absent nothing false (loadedOf ws .device)
+abbrev pub stepIn : Lent → Step → Result
+stepIn d (load ws rs) = result (loadedOf ws rs .answer) Absent nothing false (loadedOf ws rs .lent)
 stepIn d (call t room c) = callIn d t room c
 
 -- a call's entry is the one at n

@@ -1,1 +1,1 @@
-// Lists of steps on devices: definitions and laws, no code.
+// Lists of steps on gateways: definitions and laws, no code.

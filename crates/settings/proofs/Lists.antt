@@ -1,4 +1,4 @@
--- What a right list tells: its connections are at most 8, and each is right.
+-- What a right list tells: its connections are at most 64, and each is right.
 use mathlib.Core.Path.{_≡_}
 use mathlib.Core.Bool.{Bool, true, _&&_}
 use mathlib.Core.List.{List}
@@ -16,10 +16,10 @@ module _ (ws : List ℕ) (h : isList ws ≡ true) where
   some : Bool
   some = eqb (length ws % 7) 0 && leb 1 n
 
-  pub count-le : countOf ws ≤ 8
+  pub count-le : countOf ws ≤ 64
   unfolding isList n some
-  count-le = leb-true n 8 (and-elim-right some (leb n 8) (and-elim-left (some && leb n 8) (areConnections ws n) h))
+  count-le = leb-true n 64 (and-elim-right some (leb n 64) (and-elim-left (some && leb n 64) (areConnections ws n) h))
 
   pub are-connections : areConnections ws (countOf ws) ≡ true
   unfolding isList n some
-  are-connections = and-elim-right (some && leb n 8) (areConnections ws n) h
+  are-connections = and-elim-right (some && leb n 64) (areConnections ws n) h

@@ -39,6 +39,6 @@ areConnections ws (suc n) = areConnections ws n && (isConnectionAt ws n && isNew
 abbrev pub countOf : List ℕ → ℕ
 countOf ws = length ws / 7
 
--- 1 to 8 connections of seven words each
+-- 1 to 64 connections of seven words each
 unfoldable pub isList : List ℕ → Bool
-isList ws = eqb (length ws % 7) 0 && leb 1 (countOf ws) && leb (countOf ws) 8 && areConnections ws (countOf ws)
+isList ws = eqb (length ws % 7) 0 && leb 1 (countOf ws) && leb (countOf ws) 64 && areConnections ws (countOf ws)

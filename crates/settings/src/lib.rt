@@ -8,6 +8,9 @@ ghost use Rattle.settings.specs.Lists.{wordOf, connectionAt, settingsAt,
 ghost use Rattle.settings.specs.Lists.{isList};
 use endpoint::Settings;
 
+// The most connections of a gateway.
+const MOST_CONNECTIONS: usize = 64;
+
 // The word at k, 0 past the end.
 fn word(list: &[u32], k: usize) -> u32
     ensures { λ r. ⌜ r ≡ getD (now (list .entry)) k 0 ⌝ }
@@ -164,12 +167,12 @@ fn are_connections(list: &[u32], n: u8) -> bool
     are
 }
 
-// Whether a list is right: 1 to 8 connections of seven words each, and no CID twice.
+// Whether a list is right: 1 to 64 connections of seven words each, and no CID twice.
 pub fn is_list(list: &[u32]) -> bool
     ensures { λ r. ⌜ r ≡ isList (now (list .entry)) ⌝ }
 {
     let n = list.len();
-    if (n % 7 == 0) & (1 <= n / 7) & (n / 7 <= 8) {
+    if (n % 7 == 0) & (1 <= n / 7) & (n / 7 <= MOST_CONNECTIONS) {
         return are_connections(list, (n / 7) as u8);
     }
     false

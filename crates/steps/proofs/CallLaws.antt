@@ -2,7 +2,7 @@
 use mathlib.Core.Path.{_≡_, refl, sym, ap, subst}
 use Prim.Native.Nat.{ℕ}
 use Rattle.endpoint.specs.declared.Settings.{Settings}
-use Rattle.endpoint.specs.declared.Endpoint.{Endpoint}
+use Rattle.endpoint.specs.Endpoint.{Endpoint}
 use Rattle.endpoint.specs.declared.Reason.{Reason}
 use Rattle.endpoint.specs.declared.Answer.the-variants.{Dropped}
 use Rattle.steps.specs.Calls.{dropped}

@@ -14,7 +14,7 @@ use Rattle.frame.specs.Writing.{isBodyLength, isWritable}
 use Rattle.frame.specs.RoundTrip.{Readable}
 use mathlib.Mathlib.Data.Bool.Basic.{and-elim-left as and-left}
 use Rattle.endpoint.specs.declared.State.the-variants.{Refresh}
-use Rattle.endpoint.specs.declared.Endpoint.{Endpoint}
+use Rattle.endpoint.specs.Endpoint.{Endpoint}
 use Rattle.endpoint.specs.declared.Answer.the-variants.{Done}
 use Rattle.endpoint.specs.Answers.{firstOf, isDone, isDropped, isEnded}
 use Rattle.endpoint.specs.Table.{isState, isSetup}

@@ -3,6 +3,7 @@ pub mod Copies
 pub mod Data
 pub mod Dispatch
 pub mod Firsts
+pub mod Left
 pub mod Outcomes
 pub mod Shows
 pub mod Whole
@@ -13,3 +14,4 @@ pub mod Dones
 pub mod Types
 pub mod Counts
 pub mod CallLaws
+pub mod Values

@@ -6,7 +6,7 @@ use lib.ListN.{length}
 use borrow.Author.Tests.{lt-ltb, le-ltb}
 use Rattle.frame.specs.declared.Fields.{Fields}
 use Rattle.words.specs.Output.{over}
-use Rattle.endpoint.specs.declared.Endpoint.{Endpoint}
+use Rattle.endpoint.specs.Endpoint.{Endpoint, coreOf}
 use Rattle.endpoint.specs.declared.Reason.the-variants as R
 use Rattle.endpoint.specs.declared.Answer.{Answer}
 use Rattle.endpoint.specs.declared.Answer.the-variants.{Dropped}
@@ -17,18 +17,18 @@ use Rattle.steps.specs.Says.{withRoom, steppedOf, StepSays, WholeSays}
 
 -- ---- an outcome that writes nothing, and one that writes a frame
 module _ (out : List ℕ) (o : Outcome) (a : Answer) (x : Endpoint) where
-  pub quiet-step : {r : Stepped} → o ≡ outcome a x nothing → r ≡ steppedOf a x 0 → StepSays o out out r
+  pub quiet-step : {r : Stepped} → o ≡ outcome a x nothing → r ≡ steppedOf a (coreOf x) 0 → StepSays o out out r
   unfolding over
   quiet-step q s = record { answered = rw (s, q); left = rw (s, q); counted = rw (s, q); output = rw q }
 
   pub loud-step : (f : Fields) (body : List ℕ) {out′ : List ℕ} {n : ℕ} {r : Stepped} → o ≡ outcome a x (frame f body)
-      → WholeSays f body out out′ n → r ≡ steppedOf a x n → StepSays o out out′ r
+      → WholeSays f body out out′ n → r ≡ steppedOf a (coreOf x) n → StepSays o out out′ r
   loud-step f body q w s =
       record { answered = rw (s, q); left = rw (s, q); counted = rw (s, q) (w .counted); output = rw q (w .output) }
 
 -- ---- the same where the output was found long enough, and where it was not
 module _ (out : List ℕ) (e : Endpoint) (o : Outcome) where
-  pub short : {r : Stepped} → length out < 248 → r ≡ steppedOf (Dropped R.Buffer) e 0
+  pub short : {r : Stepped} → length out < 248 → r ≡ steppedOf (Dropped R.Buffer) (coreOf e) 0
       → StepSays (withRoom (length out) e o) out out r
   short h s =
       let t = lt-ltb (length out) 248 h in
@@ -39,10 +39,10 @@ module _ (out : List ℕ) (e : Endpoint) (o : Outcome) where
   roomy h s = rw (le-ltb (length out) 248 h) s
 
   module _ (h : 248 ≤ length out) (a : Answer) (x : Endpoint) where
-    pub quiet : {r : Stepped} → o ≡ outcome a x nothing → r ≡ steppedOf a x 0
+    pub quiet : {r : Stepped} → o ≡ outcome a x nothing → r ≡ steppedOf a (coreOf x) 0
         → StepSays (withRoom (length out) e o) out out r
     quiet q s = roomy h (quiet-step out o a x q s)
 
     pub loud : (f : Fields) (body : List ℕ) {out′ : List ℕ} {n : ℕ} {r : Stepped} → o ≡ outcome a x (frame f body)
-        → WholeSays f body out out′ n → r ≡ steppedOf a x n → StepSays (withRoom (length out) e o) out out′ r
+        → WholeSays f body out out′ n → r ≡ steppedOf a (coreOf x) n → StepSays (withRoom (length out) e o) out out′ r
     loud f body q w s = roomy h (loud-step out o a x f body q w s)

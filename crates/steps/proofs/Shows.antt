@@ -10,7 +10,7 @@ use borrow.Author.Tests.{lt-ltb, le-ltb, leb-true}
 use Rattle.words.specs.Output.{over}
 use mathlib.Mathlib.Data.Bool.Basic.{and-elim-left as and-left, and-elim-right as and-right}
 use Rattle.endpoint.specs.declared.Settings.{Settings}
-use Rattle.endpoint.specs.declared.Endpoint.{Endpoint}
+use Rattle.endpoint.specs.Endpoint.{Endpoint}
 use Rattle.steps.specs.declared.Shown.{Shown}
 use Rattle.steps.specs.Frames.{showWidth}
 use Rattle.steps.specs.Calls.{isFailSafe, heldOr, shownOf}

@@ -11,7 +11,7 @@ use Rattle.words.specs.Words.{wordBytes}
 use Rattle.frame.specs.Control.{is}
 use Rattle.frame.specs.Writing.{frameBytes}
 use Rattle.endpoint.specs.declared.Settings.{Settings}
-use Rattle.endpoint.specs.declared.Endpoint.{Endpoint}
+use Rattle.endpoint.specs.Endpoint.{Endpoint}
 use Rattle.endpoint.specs.Due.{requestDue}
 use Rattle.endpoint.specs.Time.{span, timeOf}
 

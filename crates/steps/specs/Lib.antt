@@ -5,3 +5,4 @@ pub mod Deliveries
 pub mod Steps
 pub mod Says
 pub mod Laws
+pub mod Values

@@ -8,7 +8,8 @@ use lib.ListN.{length, take}
 use Rattle.frame.specs.declared.Fields.{Fields}
 use Rattle.words.specs.Output.{over}
 use Rattle.frame.specs.Writing.{frameBytes}
-use Rattle.endpoint.specs.declared.Endpoint.{Endpoint}
+use Rattle.endpoint.specs.declared.Core.{Core}
+use Rattle.endpoint.specs.Endpoint.{Endpoint, coreOf}
 use Rattle.endpoint.specs.declared.Reason.the-variants as R
 use Rattle.endpoint.specs.declared.Answer.{Answer}
 use Rattle.endpoint.specs.declared.Answer.the-variants.{Dropped}
@@ -31,17 +32,17 @@ pub record DataSays (carried : List ℕ) (d : SetupData) : Type 0 where
   pub holds : bytesIn d ≡ carried
   pub fits : d .length ≤ length (d .bytes)
 
-abbrev pub steppedOf : Answer → Endpoint → ℕ → Stepped
-steppedOf a e n = record { answer = a; endpoint = e; count = n }
+abbrev pub steppedOf : Answer → Core → ℕ → Stepped
+steppedOf a e n = record { answer = a; core = e; count = n }
 
 -- a call that is lent no output, and writes nothing
 abbrev pub plainStep : Outcome → Stepped
-plainStep o = steppedOf (o .answer) (o .endpoint) 0
+plainStep o = steppedOf (o .answer) (coreOf (o .endpoint)) 0
 
 -- a call that is lent an output: the written bytes stand over its front, the rest stays
 pub record StepSays (o : Outcome) (out out′ : List ℕ) (r : Stepped) : Type 0 where
   pub answered : r .answer ≡ o .answer
-  pub left : r .endpoint ≡ o .endpoint
+  pub left : r .core ≡ coreOf (o .endpoint)
   pub counted : r .count ≡ length (bytesOf (o .writes))
   pub output : out′ ≡ over (bytesOf (o .writes)) out
 

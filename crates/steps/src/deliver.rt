@@ -1,6 +1,8 @@
 // Deliver: a frame of this connection, as the reader gives it.
 ghost use mathlib.Core.Path.{_≡_};
-ghost use mathlib.Core.Bool.{false};
+ghost use Rattle.endpoint.specs.Endpoint.{bare, coreOf};
+ghost use Rattle.transitions.specs.ByFrame.{endedBy, takenOf};
+ghost use mathlib.Core.Bool.{false, cond};
 ghost use mathlib.Core.List.{_++_};
 ghost use Prim.Native.Nat.{ℕ, _≤_};
 ghost use lib.ListN.{length, take, drop, replicate};
@@ -18,16 +20,16 @@ use super::frames::reply_fields;
 use super::frames::setup_data;
 use super::frames::show_width;
 use super::frames::write_whole;
+use super::lifecycle::refused;
 use super::lifecycle::stepped;
 use endpoint::Answer;
-use endpoint::Endpoint;
+use endpoint::Core;
 use endpoint::Reason;
 use endpoint::State;
 use endpoint::answers::first_of;
 use endpoint::answers::is_done;
 use endpoint::answers::is_dropped;
 use endpoint::answers::is_ended;
-use endpoint::answers::left_by;
 use endpoint::answers::setup_faults;
 use endpoint::answers::value_faults;
 use endpoint::due::answers_to;
@@ -40,7 +42,6 @@ use endpoint::table::is_state;
 use endpoint::table::next_state;
 use endpoint::time::age_of;
 use endpoint::time::allowance;
-use endpoint::time::ended;
 use endpoint::time::is_above;
 use endpoint::time::is_too_far_ahead;
 use endpoint::time::is_too_late;
@@ -54,8 +55,8 @@ use transitions::by_frame::refreshed;
 use transitions::by_frame::taken;
 use words::same;
 
-fn refresh_answer(e: Endpoint, clock: u64, stamp: u64, width: usize) -> Answer
-    ensures { λ r. ⌜ r ≡ firstOf (refreshFaults e clock stamp width) ⌝ }
+fn refresh_answer(e: Core, clock: u64, stamp: u64, width: usize) -> Answer
+    ensures { λ r. ⌜ r ≡ firstOf (refreshFaults (bare e) clock stamp width) ⌝ }
 {
     let state = e.state;
     let settings = e.settings;
@@ -84,7 +85,8 @@ fn copied(body: &[u8], n: usize) -> [u8; 100]
     bytes
 }
 
-fn padded(body: &[u8]) -> [u8; 100]
+// A body in an array, with zeros after it.
+pub fn padded(body: &[u8]) -> [u8; 100]
     ensures { λ r. ⌜ r ≡ paddedOf (now (body .entry)) ⌝ }
 {
     if body.len() < 100 {
@@ -94,12 +96,14 @@ fn padded(body: &[u8]) -> [u8; 100]
 }
 
 // An S-Refresh of the other end.
-fn take_refresh(e: Endpoint, clock: u64, stamp: u64, body: &[u8]) -> Stepped
-    ensures { λ r. ⌜ r ≡ plainStep (takeRefresh e clock stamp (now (body .entry))) ⌝ }
+fn take_refresh(e: Core, clock: u64, stamp: u64, body: &[u8]) -> Stepped
+    ensures { λ r. ⌜ r ≡ plainStep (takeRefresh (bare e) clock stamp (now (body .entry))) ⌝ }
 {
     let answer = refresh_answer(e, clock, stamp, body.len());
-    let next = refreshed(e, clock, stamp, padded(body));
-    stepped(answer, left_by(answer, e, ended(e), next), 0)
+    if is_done(answer) {
+        return stepped(Answer::Done, refreshed(e, clock, stamp), 0);
+    }
+    refused(answer, e)
 }
 
 // Whether a body is the data of a setup request.
@@ -112,8 +116,8 @@ fn is_data(body: &[u8], due: SetupData) -> bool
     same(body, &bytes[..n])
 }
 
-fn request_answer(e: Endpoint, f: Fields, body: &[u8]) -> Answer
-    ensures { λ r. ⌜ r ≡ firstOf (requestFaults e f (now (body .entry))) ⌝ }
+fn request_answer(e: Core, f: Fields, body: &[u8]) -> Answer
+    ensures { λ r. ⌜ r ≡ firstOf (requestFaults (bare e) f (now (body .entry))) ⌝ }
 {
     let state = e.state;
     let settings = e.settings;
@@ -128,24 +132,38 @@ fn request_answer(e: Endpoint, f: Fields, body: &[u8]) -> Answer
     first_of(setup_faults(no, body.len() != data.length, !above, !disconnect & !equal))
 }
 
+// What a request that is answered leaves: done, or ended.
+fn left(done: bool, e: Core, clock: u64, f: Fields) -> Core
+    ensures { λ r. ⌜ r ≡ coreOf (cond done (takenOf (bare e) clock f) (endedBy (bare e) (f .timestamp))) ⌝ }
+{
+    if done {
+        return taken(e, clock, f);
+    }
+    ended_by(e, f.timestamp)
+}
+
 // A request at a slave, with its reply.
-fn take_request(e: Endpoint, clock: u64, f: Fields, body: &[u8], out: &mut [u8]) -> Stepped
+fn take_request(e: Core, clock: u64, f: Fields, body: &[u8], out: &mut [u8]) -> Stepped
     requires { ⌜ (248 ≤ length (now out)) × (is (f .command) K.Refresh ≡ false) ⌝ }
-    ensures { λ r. ⌜ StepSays (takeRequest e clock f (now (body .entry))) (now (out .entry)) (now (out .exit)) r ⌝ }
+    ensures { λ r. ⌜ StepSays (takeRequest (bare e) clock f (now (body .entry))) (now (out .entry)) (now (out .exit)) r ⌝ }
 {
     let answer = request_answer(e, f, body);
+    if is_dropped(answer) {
+        return stepped(answer, e, 0);
+    }
     let k = f.command;
-    let next = left_by(answer, e, ended_by(e, f.timestamp), taken(e, clock, f));
-    if is_dropped(answer) | is(k, Command::Disconnect) {
+    let done = is_done(answer);
+    let next = left(done, e, clock, f);
+    if is(k, Command::Disconnect) {
         return stepped(answer, next, 0);
     }
-    let busy = is_done(answer) & is_busy(e, k);
+    let busy = done & is_busy(e, k);
     let count = write_whole(reply_fields(e, f, busy, is_ended(answer)), body, out);
     stepped(answer, next, count)
 }
 
-fn reply_answer(e: Endpoint, f: Fields, body: &[u8]) -> Answer
-    ensures { λ r. ⌜ r ≡ firstOf (replyFaults e f (now (body .entry))) ⌝ }
+fn reply_answer(e: Core, f: Fields, body: &[u8]) -> Answer
+    ensures { λ r. ⌜ r ≡ firstOf (replyFaults (bare e) f (now (body .entry))) ⌝ }
 {
     let state = e.state;
     let setup = e.setup;
@@ -166,16 +184,19 @@ fn reply_answer(e: Endpoint, f: Fields, body: &[u8]) -> Answer
 }
 
 // A reply at a master.
-fn take_reply(e: Endpoint, clock: u64, f: Fields, body: &[u8]) -> Stepped
-    ensures { λ r. ⌜ r ≡ plainStep (takeReply e clock f (now (body .entry))) ⌝ }
+fn take_reply(e: Core, clock: u64, f: Fields, body: &[u8]) -> Stepped
+    ensures { λ r. ⌜ r ≡ plainStep (takeReply (bare e) clock f (now (body .entry))) ⌝ }
 {
     let answer = reply_answer(e, f, body);
-    stepped(answer, left_by(answer, e, ended(e), heard(e, clock, f)), 0)
+    if is_done(answer) {
+        return stepped(Answer::Done, heard(e, clock, f), 0);
+    }
+    refused(answer, e)
 }
 
 // A frame of this connection. A slave's request writes its reply.
-pub fn deliver(e: Endpoint, clock: u64, f: Fields, body: &[u8], out: &mut [u8]) -> Stepped
-    ensures { λ r. ⌜ StepSays (withRoom (length (now (out .entry))) e (deliverOf e clock f (now (body .entry))))
+pub fn deliver(e: Core, clock: u64, f: Fields, body: &[u8], out: &mut [u8]) -> Stepped
+    ensures { λ r. ⌜ StepSays (withRoom (length (now (out .entry))) (bare e) (deliverOf (bare e) clock f (now (body .entry))))
         (now (out .entry)) (now (out .exit)) r ⌝ }
 {
     if out.len() < LONGEST_FRAME {

@@ -1,5 +1,6 @@
 // The frames that an endpoint writes: the data of setup requests, the width of values, and the fields of each frame.
 ghost use mathlib.Core.Path.{_≡_};
+ghost use Rattle.endpoint.specs.Endpoint.{bare};
 ghost use mathlib.Core.List.{_++_};
 ghost use Prim.Native.Nat.{_≤_};
 ghost use lib.ListN.{length};
@@ -10,7 +11,7 @@ ghost use Rattle.steps.specs.Says.{bytesIn, DataSays, WholeSays};
 ghost use Rattle.frame.specs.Writing.{isWritable};
 ghost use mathlib.Core.Bool.{true};
 use super::SetupData;
-use endpoint::Endpoint;
+use endpoint::Core;
 use endpoint::Settings;
 use endpoint::due::request_due;
 use endpoint::time::passed;
@@ -65,8 +66,8 @@ pub(crate) fn setup_data(s: Settings, k: Command) -> SetupData
 }
 
 // The words that the request due carries.
-pub(crate) fn due_data(e: Endpoint) -> SetupData
-    ensures { λ r. ⌜ DataSays (dueData e) r ⌝ }
+pub(crate) fn due_data(e: Core) -> SetupData
+    ensures { λ r. ⌜ DataSays (dueData (bare e)) r ⌝ }
 {
     let settings = e.settings;
     setup_data(settings, request_due(e))
@@ -135,8 +136,8 @@ fn baseline_of(k: Command, clock: u64, measured: u64) -> u16
     0
 }
 
-pub(crate) fn request_fields(e: Endpoint, clock: u64) -> Fields
-    ensures { λ r. ⌜ r ≡ requestFields e clock ⌝ }
+pub(crate) fn request_fields(e: Core, clock: u64) -> Fields
+    ensures { λ r. ⌜ r ≡ requestFields (bare e) clock ⌝ }
 {
     let k = request_due(e);
     let stamp = time_of(e, clock);
@@ -149,8 +150,8 @@ pub(crate) fn request_fields(e: Endpoint, clock: u64) -> Fields
     )
 }
 
-pub(crate) fn refresh_fields(e: Endpoint, clock: u64) -> Fields
-    ensures { λ r. ⌜ r ≡ refreshFields e clock ⌝ }
+pub(crate) fn refresh_fields(e: Core, clock: u64) -> Fields
+    ensures { λ r. ⌜ r ≡ refreshFields (bare e) clock ⌝ }
 {
     let stamp = time_of(e, clock);
     sent_fields(
@@ -162,15 +163,15 @@ pub(crate) fn refresh_fields(e: Endpoint, clock: u64) -> Fields
     )
 }
 
-pub(crate) fn disconnect_fields(e: Endpoint, clock: u64) -> Fields
-    ensures { λ r. ⌜ r ≡ disconnectFields e clock ⌝ }
+pub(crate) fn disconnect_fields(e: Core, clock: u64) -> Fields
+    ensures { λ r. ⌜ r ≡ disconnectFields (bare e) clock ⌝ }
 {
     let stamp = time_of(e, clock);
     sent_fields(Command::Disconnect, false, e.settings.connection, stamp, 0)
 }
 
-pub(crate) fn reply_fields(e: Endpoint, f: Fields, busy: bool, error: bool) -> Fields
-    ensures { λ r. ⌜ r ≡ replyFields e f busy error ⌝ }
+pub(crate) fn reply_fields(e: Core, f: Fields, busy: bool, error: bool) -> Fields
+    ensures { λ r. ⌜ r ≡ replyFields (bare e) f busy error ⌝ }
 {
     let k = f.command;
     Fields {

@@ -9,12 +9,12 @@ pub mod show;
 pub mod station;
 
 use endpoint::Answer;
-use endpoint::Endpoint;
+use endpoint::Core;
 
-// A call's answer, the endpoint it leaves, and the bytes written to the lent output.
+// A call's answer, the core of the endpoint it leaves, and the bytes written to the lent output.
 pub struct Stepped {
     pub answer: Answer,
-    pub endpoint: Endpoint,
+    pub core: Core,
     pub count: usize,
 }
 

@@ -1,21 +1,24 @@
 // A user's calls that begin and end a connection: start, stop, restart.
 ghost use mathlib.Core.Path.{_≡_};
+ghost use Rattle.endpoint.specs.Endpoint.{bare};
 ghost use lib.ListN.{length};
 ghost use Rattle.endpoint.specs.Answers.{firstOf};
-ghost use Rattle.steps.specs.Calls.{startOf, restartOf, stopFaults, stopOf};
+ghost use Rattle.steps.specs.Calls.{refused, startOf, restartOf, stopFaults, stopOf};
 ghost use Rattle.steps.specs.Says.{steppedOf, plainStep, withRoom, StepSays};
 use super::Stepped;
 use super::frames::disconnect_fields;
 use super::frames::setup_data;
 use super::frames::write_data;
 use endpoint::Answer;
-use endpoint::Endpoint;
+use endpoint::Core;
 use endpoint::Reason;
 use endpoint::State;
 use endpoint::answers::call_faults;
 use endpoint::answers::first_of;
 use endpoint::answers::is_dropped;
+use endpoint::answers::is_ended;
 use endpoint::table::is_state;
+use endpoint::time::ended;
 use endpoint::time::is_above;
 use endpoint::time::time_of;
 use frame::Command;
@@ -24,19 +27,29 @@ use transitions::by_call::restarted;
 use transitions::by_call::started;
 use transitions::by_call::stopped;
 
-pub(crate) fn stepped(answer: Answer, endpoint: Endpoint, count: usize) -> Stepped
-    ensures { λ r. ⌜ r ≡ steppedOf answer endpoint count ⌝ }
+pub(crate) fn stepped(answer: Answer, core: Core, count: usize) -> Stepped
+    ensures { λ r. ⌜ r ≡ steppedOf answer core count ⌝ }
 {
     Stepped {
         answer: answer,
-        endpoint: endpoint,
+        core: core,
         count: count,
     }
 }
 
+// Refused: the endpoint stays, or ends where the answer says so.
+pub(crate) fn refused(answer: Answer, e: Core) -> Stepped
+    ensures { λ r. ⌜ r ≡ plainStep (refused (bare e) answer) ⌝ }
+{
+    if is_ended(answer) {
+        return stepped(answer, ended(e), 0);
+    }
+    stepped(answer, e, 0)
+}
+
 // A master leaves Close.
-pub fn start(e: Endpoint, clock: u64) -> Stepped
-    ensures { λ r. ⌜ r ≡ plainStep (startOf e clock) ⌝ }
+pub fn start(e: Core, clock: u64) -> Stepped
+    ensures { λ r. ⌜ r ≡ plainStep (startOf (bare e) clock) ⌝ }
 {
     let state = e.state;
     if !e.settings.slave & is_state(state, State::Close) {
@@ -46,8 +59,8 @@ pub fn start(e: Endpoint, clock: u64) -> Stepped
 }
 
 // From Terminate to Close; timestamps stay remembered.
-pub fn restart(e: Endpoint) -> Stepped
-    ensures { λ r. ⌜ r ≡ plainStep (restartOf e) ⌝ }
+pub fn restart(e: Core) -> Stepped
+    ensures { λ r. ⌜ r ≡ plainStep (restartOf (bare e)) ⌝ }
 {
     let state = e.state;
     if is_state(state, State::Terminate) {
@@ -56,8 +69,8 @@ pub fn restart(e: Endpoint) -> Stepped
     stepped(Answer::Dropped(Reason::Turn), e, 0)
 }
 
-fn stop_answer(e: Endpoint, clock: u64) -> Answer
-    ensures { λ r. ⌜ r ≡ firstOf (stopFaults e clock) ⌝ }
+fn stop_answer(e: Core, clock: u64) -> Answer
+    ensures { λ r. ⌜ r ≡ firstOf (stopFaults (bare e) clock) ⌝ }
 {
     let state = e.state;
     let timestamps = e.timestamps;
@@ -69,8 +82,8 @@ fn stop_answer(e: Endpoint, clock: u64) -> Answer
 }
 
 // Terminate, from any state but Close and Terminate. A master's writes S-Disconnect.
-pub fn stop(e: Endpoint, clock: u64, out: &mut [u8]) -> Stepped
-    ensures { λ r. ⌜ StepSays (withRoom (length (now (out .entry))) e (stopOf e clock))
+pub fn stop(e: Core, clock: u64, out: &mut [u8]) -> Stepped
+    ensures { λ r. ⌜ StepSays (withRoom (length (now (out .entry))) (bare e) (stopOf (bare e) clock))
         (now (out .entry)) (now (out .exit)) r ⌝ }
 {
     if out.len() < LONGEST_FRAME {

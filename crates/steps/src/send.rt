@@ -1,5 +1,6 @@
 // Send: a master's next request in setup, S-Refresh in Refresh.
 ghost use mathlib.Core.Path.{_≡_};
+ghost use Rattle.endpoint.specs.Endpoint.{bare};
 ghost use lib.ListN.{length};
 ghost use Rattle.endpoint.specs.Answers.{firstOf};
 ghost use Rattle.steps.specs.Calls.{sendFaults, sendOf};
@@ -11,27 +12,26 @@ use super::frames::request_fields;
 use super::frames::send_width;
 use super::frames::write_data;
 use super::frames::write_whole;
+use super::lifecycle::refused;
 use super::lifecycle::stepped;
 use endpoint::Answer;
-use endpoint::Endpoint;
+use endpoint::Core;
 use endpoint::Reason;
 use endpoint::State;
 use endpoint::answers::call_faults;
 use endpoint::answers::first_of;
 use endpoint::answers::is_done;
-use endpoint::answers::left_by;
 use endpoint::due::is_exhausted;
 use endpoint::due::may_request;
 use endpoint::table::is_state;
-use endpoint::time::ended;
 use endpoint::time::is_above;
 use endpoint::time::time_of;
 use frame::LONGEST_FRAME;
 use transitions::by_call::refresh_sent;
 use transitions::by_call::requested;
 
-fn send_answer(e: Endpoint, clock: u64, width: usize) -> Answer
-    ensures { λ r. ⌜ r ≡ firstOf (sendFaults e clock width) ⌝ }
+fn send_answer(e: Core, clock: u64, width: usize) -> Answer
+    ensures { λ r. ⌜ r ≡ firstOf (sendFaults (bare e) clock width) ⌝ }
 {
     let state = e.state;
     let settings = e.settings;
@@ -52,8 +52,8 @@ fn send_answer(e: Endpoint, clock: u64, width: usize) -> Answer
 }
 
 // The next request, whatever value is lent; in Refresh the value.
-pub fn send(e: Endpoint, clock: u64, value: &[u8], out: &mut [u8]) -> Stepped
-    ensures { λ r. ⌜ StepSays (withRoom (length (now (out .entry))) e (sendOf e clock (now (value .entry))))
+pub fn send(e: Core, clock: u64, value: &[u8], out: &mut [u8]) -> Stepped
+    ensures { λ r. ⌜ StepSays (withRoom (length (now (out .entry))) (bare e) (sendOf (bare e) clock (now (value .entry))))
         (now (out .entry)) (now (out .exit)) r ⌝ }
 {
     if out.len() < LONGEST_FRAME {
@@ -61,7 +61,7 @@ pub fn send(e: Endpoint, clock: u64, value: &[u8], out: &mut [u8]) -> Stepped
     }
     let answer = send_answer(e, clock, value.len());
     if !is_done(answer) {
-        return stepped(answer, left_by(answer, e, ended(e), e), 0);
+        return refused(answer, e);
     }
     let state = e.state;
     if is_state(state, State::Refresh) {

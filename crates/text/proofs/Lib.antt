@@ -3,6 +3,6 @@ pub mod Runs
 pub mod Every
 pub mod Words
 pub mod Numbers
-pub mod Rooms
+pub mod Limits
 pub mod NumbersBack
 pub mod BytesBack

@@ -11,8 +11,10 @@ use Rattle.text.specs.declared.Act.{Act}
 use Rattle.text.specs.declared.Act.the-variants as A
 use Rattle.text.specs.declared.Line.{Line}
 use Rattle.text.specs.declared.Line.the-variants as L
+use Rattle.text.specs.declared.Parameter.{Parameter}
+use Rattle.text.specs.declared.Parameter.the-variants as P
 use Rattle.text.specs.declared.parse.Name.{Name}
-use Rattle.text.specs.declared.parse.Name.the-variants.{Load, Timed, Send, Deliver, Check, Room, Unknown}
+use Rattle.text.specs.declared.parse.Name.the-variants.{Load, Timed, Send, Deliver, Check, Set, Unknown}
 use Rattle.text.specs.declared.parse.Verb.{Verb}
 use Rattle.text.specs.declared.parse.Pair.{Pair}
 use Rattle.text.specs.declared.parse.Pair.the-variants.{Both, Broken}
@@ -32,7 +34,8 @@ names =
     (bytesOf "load", Load)
     ∷ (bytesOf "deliver", Deliver)
     ∷ (bytesOf "check", Check)
-    ∷ (bytesOf "room", Room)
+    ∷ (bytesOf "room", Set P.Room)
+    ∷ (bytesOf "records", Set P.Records)
     ∷ (bytesOf "send", Send)
     ∷ (bytesOf "start", Timed A.Start)
     ∷ (bytesOf "stop", Timed A.Stop)
@@ -73,10 +76,14 @@ unfoldable pub deliverOf : Number → Bool → ℕ → Line
 deliverOf (Value clock) is start = cond is (L.Deliver clock start) L.Wrong
 deliverOf Invalid is start = L.Wrong
 
--- 0 to 256
-unfoldable pub roomOf : Number → Line
-roomOf (Value n) = cond (leb n 256) (L.Room n) L.Wrong
-roomOf Invalid = L.Wrong
+-- from 0 on
+abbrev pub mostOf : Parameter → ℕ
+mostOf P.Room = 256
+mostOf P.Records = 70
+
+unfoldable pub setOf : Parameter → Number → Line
+setOf p (Value n) = cond (leb n (mostOf p)) (L.Set p n) L.Wrong
+setOf p Invalid = L.Wrong
 
 -- ---- what follows a name: r is the line s after its first word. The last word of a call is all that is left, so that
 -- none may follow it.
@@ -108,7 +115,7 @@ callOf (Timed act) s = timedIn act (restOf s)
 callOf Send s = sendIn s (restOf s)
 callOf Deliver s = deliverIn s (restOf s)
 callOf Check s = checkIn s (restOf s)
-callOf Room s = roomOf (numberOf (restOf s))
+callOf (Set p) s = setOf p (numberOf (restOf s))
 callOf Unknown s = L.Wrong
 
 -- `#` begins a comment; so is an empty line

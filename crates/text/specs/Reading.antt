@@ -103,6 +103,6 @@ unfoldable pub areSettings : List ℕ → ℕ → Bool
 areSettings s zero = true
 areSettings s (suc n) = areSettings s n && isSettingAt s n
 
--- at most 64, and nothing after the last
+-- at most 450, and nothing after the last
 unfoldable pub isLoad : List ℕ → Bool
-isLoad s = eqb (length s) (4 + 9 * settingCount s) && leb (settingCount s) 64 && areSettings s (settingCount s)
+isLoad s = eqb (length s) (4 + 9 * settingCount s) && leb (settingCount s) 450 && areSettings s (settingCount s)

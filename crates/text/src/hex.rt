@@ -165,7 +165,7 @@ fn are_settings(line: &[u8], n: usize) -> bool
     are
 }
 
-// Whether at most 64 words follow the name, and nothing else.
+// Whether at most 450 words follow the name, and nothing else.
 pub(crate) fn is_load(line: &[u8]) -> bool
     ensures { λ r. ⌜ r ≡ isLoad (now (line .entry)) ⌝ }
 {
@@ -174,7 +174,7 @@ pub(crate) fn is_load(line: &[u8]) -> bool
         return false;
     }
     let count = (n - 4) / 9;
-    if (n == 4 + 9 * count) & (count <= 64) {
+    if (n == 4 + 9 * count) & (count <= 450) {
         return are_settings(line, count);
     }
     false

@@ -11,7 +11,7 @@ mod word;
 // The entry that an answer names, if it names one.
 pub enum Entry {
     Absent,
-    At(u32),
+    At(usize),
 }
 
 // The calls that CLOCK and ENTRY alone follow.
@@ -23,6 +23,14 @@ pub enum Act {
     // The station's user sets 'not ready', and clears it.
     NotReady,
     Ready,
+}
+
+// What a line sets for the calls after it.
+pub enum Parameter {
+    // The length of the output that they are lent.
+    Room,
+    // How many records they are lent.
+    Records,
 }
 
 // What a line of a call list is. The bytes of a call stand as digits from `start` to the end of the line.
@@ -47,8 +55,11 @@ pub enum Line {
     Check {
         start: usize,
     },
-    // The length of the output lent to the calls after it.
-    Room(usize),
+    // No call.
+    Set {
+        parameter: Parameter,
+        n: usize,
+    },
     // A comment, or nothing at all.
     Nothing,
     // Any other form.

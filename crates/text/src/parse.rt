@@ -3,10 +3,11 @@ ghost use mathlib.Core.Path.{_≡_};
 ghost use mathlib.Core.List.{map};
 ghost use Prim.Native.Nat.{_≤_};
 ghost use lib.ListN.{length};
-ghost use Rattle.text.specs.Calls.{entryOf, nameIn, nameOf, pairOf, timedOf, sendOf, deliverOf, roomOf};
+ghost use Rattle.text.specs.Calls.{entryOf, nameIn, nameOf, pairOf, timedOf, sendOf, deliverOf, mostOf, setOf};
 ghost use Rattle.text.specs.Calls.{timedIn, sendIn, deliverIn, checkIn, callOf, lineOf};
 use super::Act;
 use super::Line;
+use super::Parameter;
 use super::hex::is_frame;
 use super::hex::is_hex;
 use super::hex::is_load;
@@ -24,7 +25,7 @@ pub(crate) enum Name {
     Send,
     Deliver,
     Check,
-    Room,
+    Set(Parameter),
     Unknown,
 }
 
@@ -37,13 +38,14 @@ pub(crate) enum Pair {
 // A word that begins a call, filled up with spaces, and what it names.
 struct Verb([u8; 10], Name);
 
-type Verbs = [Verb; 11];
+type Verbs = [Verb; 12];
 
 const VERBS: Verbs = [
     Verb(*b"load      ", Name::Load),
     Verb(*b"deliver   ", Name::Deliver),
     Verb(*b"check     ", Name::Check),
-    Verb(*b"room      ", Name::Room),
+    Verb(*b"room      ", Name::Set(Parameter::Room)),
+    Verb(*b"records   ", Name::Set(Parameter::Records)),
     Verb(*b"send      ", Name::Send),
     Verb(*b"start     ", Name::Timed(Act::Start)),
     Verb(*b"stop      ", Name::Timed(Act::Stop)),
@@ -137,13 +139,25 @@ fn deliver_of(clock: Number, is: bool, start: usize) -> Line
     }
 }
 
-fn room_of(number: Number) -> Line
-    ensures { λ r. ⌜ r ≡ roomOf number ⌝ }
+fn most(p: Parameter) -> u64
+    ensures { λ r. ⌜ r ≡ mostOf p ⌝ }
+{
+    match p {
+        Parameter::Room => 256,
+        Parameter::Records => 70,
+    }
+}
+
+fn set_of(p: Parameter, number: Number) -> Line
+    ensures { λ r. ⌜ r ≡ setOf p number ⌝ }
 {
     match number {
         Number::Value(n) => {
-            if n <= 256 {
-                return Line::Room(n as usize);
+            if n <= most(p) {
+                return Line::Set {
+                    parameter: p,
+                    n: n as usize,
+                };
             }
             Line::Wrong
         }
@@ -207,7 +221,7 @@ fn call_of(name: Name, line: &[u8]) -> Line
         Name::Send => send_in(line, r),
         Name::Deliver => deliver_in(line, r),
         Name::Check => check_in(line, r),
-        Name::Room => room_of(number_of(r)),
+        Name::Set(p) => set_of(p, number_of(r)),
         Name::Unknown => Line::Wrong,
     }
 }

@@ -8,7 +8,7 @@ use Rattle.endpoint.specs.declared.Settings.{Settings}
 use Rattle.endpoint.specs.declared.State.the-variants.{Close, Starting}
 use Rattle.endpoint.specs.declared.Timestamp.the-variants.{Never}
 use Rattle.endpoint.specs.declared.Pending.the-variants.{Nothing, Asked}
-use Rattle.endpoint.specs.declared.Endpoint.{Endpoint}
+use Rattle.endpoint.specs.Endpoint.{Endpoint}
 use Rattle.endpoint.specs.Due.{requestDue}
 use Rattle.endpoint.specs.Time.{noValue, endedOf, timeOf}
 use Rattle.endpoint.specs.Updates.{endpointOf, inState, timedFrom, withTimestamps, withSent, withPending, withRequests}

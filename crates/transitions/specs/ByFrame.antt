@@ -7,7 +7,7 @@ use Rattle.frame.specs.declared.Command.the-variants as K
 use Rattle.frame.specs.declared.Fields.{Fields}
 use Rattle.frame.specs.Control.{is}
 use Rattle.endpoint.specs.declared.Pending.the-variants.{Nothing}
-use Rattle.endpoint.specs.declared.Endpoint.{Endpoint}
+use Rattle.endpoint.specs.Endpoint.{Endpoint}
 use Rattle.endpoint.specs.Table.{nextOf, stateTo}
 use Rattle.endpoint.specs.Due.{requestDue, isBusy}
 use Rattle.endpoint.specs.Time.{offsetFrom, noValue, endedOf}

@@ -1,9 +1,10 @@
 // What a user's call that is done leaves: each step is what it changes.
 ghost use mathlib.Core.Path.{_≡_};
+ghost use Rattle.endpoint.specs.Endpoint.{bare, coreOf};
 ghost use Rattle.endpoint.specs.Updates.{withNotReady};
 ghost use Rattle.transitions.specs.ByCall.{freshOf, startedOf, restartedOf, countedOf, requestedOf};
 ghost use Rattle.transitions.specs.ByCall.{refreshSentOf, stoppedOf};
-use endpoint::Endpoint;
+use endpoint::Core;
 use endpoint::Pending;
 use endpoint::Settings;
 use endpoint::Setup;
@@ -13,7 +14,6 @@ use endpoint::Timestamp;
 use endpoint::Timestamps;
 use endpoint::due::request_due;
 use endpoint::time::ended;
-use endpoint::time::no_value;
 use endpoint::time::time_of;
 use endpoint::updates::in_state;
 use endpoint::updates::with_pending;
@@ -22,10 +22,10 @@ use frame::Command;
 use frame::control::is;
 
 // A connection as loaded: in Close, with no timestamp remembered.
-pub fn fresh(s: Settings) -> Endpoint
-    ensures { λ r. ⌜ r ≡ freshOf s ⌝ }
+pub fn fresh(s: Settings) -> Core
+    ensures { λ r. ⌜ r ≡ coreOf (freshOf s) ⌝ }
 {
-    Endpoint {
+    Core {
         settings: s,
         state: State::Close,
         since: 0,
@@ -40,31 +40,31 @@ pub fn fresh(s: Settings) -> Endpoint
             requests: 0,
         },
         station: Station { notready: false },
-        value: no_value(),
+        taken: false,
     }
 }
 
-pub fn started(e: Endpoint, clock: u64) -> Endpoint
-    ensures { λ r. ⌜ r ≡ startedOf e clock ⌝ }
+pub fn started(e: Core, clock: u64) -> Core
+    ensures { λ r. ⌜ r ≡ coreOf (startedOf (bare e) clock) ⌝ }
 {
     let mut next = in_state(State::Starting, with_pending(Pending::Nothing, e));
     next.since = clock;
     next.setup.requests = 0;
-    next.value = no_value();
+    next.taken = false;
     next
 }
 
-pub fn restarted(e: Endpoint) -> Endpoint
-    ensures { λ r. ⌜ r ≡ restartedOf e ⌝ }
+pub fn restarted(e: Core) -> Core
+    ensures { λ r. ⌜ r ≡ coreOf (restartedOf (bare e)) ⌝ }
 {
     let mut next = in_state(State::Close, e);
-    next.value = no_value();
+    next.taken = false;
     next
 }
 
 // How many setup requests have been written once this command is: S-Disconnect is not counted.
-fn counted(e: Endpoint, k: Command) -> u8
-    ensures { λ r. ⌜ r ≡ countedOf e k ⌝ }
+fn counted(e: Core, k: Command) -> u8
+    ensures { λ r. ⌜ r ≡ countedOf (bare e) k ⌝ }
 {
     if is(k, Command::Disconnect) {
         return e.setup.requests;
@@ -72,8 +72,8 @@ fn counted(e: Endpoint, k: Command) -> u8
     std::num::wrapping_add_u8(e.setup.requests, 1)
 }
 
-pub fn requested(e: Endpoint, clock: u64) -> Endpoint
-    ensures { λ r. ⌜ r ≡ requestedOf e clock ⌝ }
+pub fn requested(e: Core, clock: u64) -> Core
+    ensures { λ r. ⌜ r ≡ coreOf (requestedOf (bare e) clock) ⌝ }
 {
     let stamp = time_of(e, clock);
     let requests = counted(e, request_due(e));
@@ -83,15 +83,15 @@ pub fn requested(e: Endpoint, clock: u64) -> Endpoint
     next
 }
 
-pub fn refresh_sent(e: Endpoint, clock: u64) -> Endpoint
-    ensures { λ r. ⌜ r ≡ refreshSentOf e clock ⌝ }
+pub fn refresh_sent(e: Core, clock: u64) -> Core
+    ensures { λ r. ⌜ r ≡ coreOf (refreshSentOf (bare e) clock) ⌝ }
 {
     with_sent(time_of(e, clock), e)
 }
 
 // A master's stop has sent S-Disconnect.
-pub fn stopped(e: Endpoint, clock: u64) -> Endpoint
-    ensures { λ r. ⌜ r ≡ stoppedOf e clock ⌝ }
+pub fn stopped(e: Core, clock: u64) -> Core
+    ensures { λ r. ⌜ r ≡ coreOf (stoppedOf (bare e) clock) ⌝ }
 {
     let requests = counted(e, Command::Disconnect);
     let mut next = ended(e);
@@ -102,8 +102,8 @@ pub fn stopped(e: Endpoint, clock: u64) -> Endpoint
     with_sent(time_of(e, clock), next)
 }
 
-pub fn with_not_ready(e: Endpoint, notready: bool) -> Endpoint
-    ensures { λ r. ⌜ r ≡ withNotReady notready e ⌝ }
+pub fn with_not_ready(e: Core, notready: bool) -> Core
+    ensures { λ r. ⌜ r ≡ coreOf (withNotReady notready (bare e)) ⌝ }
 {
     let mut next = e;
     next.station.notready = notready;

@@ -1,16 +1,15 @@
 // What a frame of this connection that is taken leaves: each step is what it changes.
 ghost use mathlib.Core.Path.{_≡_};
+ghost use Rattle.endpoint.specs.Endpoint.{noBytes, bare, coreOf};
 ghost use Rattle.transitions.specs.ByFrame.{refreshedOf, endedBy, measuredBy, offsetBy, advancedOf};
 ghost use Rattle.transitions.specs.ByFrame.{deferredOf, answeredOf, takenOf, confirmedOf, dueAgainOf, heardOf};
-use endpoint::Endpoint;
+use endpoint::Core;
 use endpoint::Pending;
-use endpoint::Value;
 use endpoint::due::is_busy;
 use endpoint::due::request_due;
 use endpoint::table::next_state;
 use endpoint::table::state_to;
 use endpoint::time::ended;
-use endpoint::time::no_value;
 use endpoint::time::offset_from;
 use endpoint::updates::in_state;
 use endpoint::updates::with_accepted;
@@ -19,21 +18,18 @@ use frame::Command;
 use frame::Fields;
 use frame::control::is;
 
-pub fn refreshed(e: Endpoint, clock: u64, stamp: u64, bytes: [u8; 100]) -> Endpoint
-    ensures { λ r. ⌜ r ≡ refreshedOf e clock stamp bytes ⌝ }
+// The value's bytes are kept by the caller.
+pub fn refreshed(e: Core, clock: u64, stamp: u64) -> Core
+    ensures { λ r. ⌜ r ≡ coreOf (refreshedOf (bare e) clock stamp noBytes) ⌝ }
 {
-    let value = Value {
-        taken: true,
-        bytes: bytes,
-    };
     let mut next = with_accepted(stamp, e);
     next.since = clock;
-    next.value = value;
+    next.taken = true;
     next
 }
 
-pub fn ended_by(e: Endpoint, stamp: u64) -> Endpoint
-    ensures { λ r. ⌜ r ≡ endedBy e stamp ⌝ }
+pub fn ended_by(e: Core, stamp: u64) -> Core
+    ensures { λ r. ⌜ r ≡ coreOf (endedBy (bare e) stamp) ⌝ }
 {
     with_accepted(stamp, ended(e))
 }
@@ -48,8 +44,8 @@ fn measured_by(k: Command, clock: u64, measured: u64) -> u64
     }
 }
 
-fn offset_by(e: Endpoint, f: Fields) -> u64
-    ensures { λ r. ⌜ r ≡ offsetBy e f ⌝ }
+fn offset_by(e: Core, f: Fields) -> u64
+    ensures { λ r. ⌜ r ≡ offsetBy (bare e) f ⌝ }
 {
     let k = f.command;
     if is(k, Command::RefreshGo) {
@@ -58,8 +54,8 @@ fn offset_by(e: Endpoint, f: Fields) -> u64
     e.setup.offset
 }
 
-fn advanced(e: Endpoint, clock: u64, f: Fields) -> Endpoint
-    ensures { λ r. ⌜ r ≡ advancedOf e clock f ⌝ }
+fn advanced(e: Core, clock: u64, f: Fields) -> Core
+    ensures { λ r. ⌜ r ≡ coreOf (advancedOf (bare e) clock f) ⌝ }
 {
     let state = e.state;
     let k = f.command;
@@ -70,13 +66,13 @@ fn advanced(e: Endpoint, clock: u64, f: Fields) -> Endpoint
     next.since = clock;
     next.setup.measured = s2;
     next.setup.offset = offset;
-    next.value = no_value();
+    next.taken = false;
     next
 }
 
 // The state stays, and s2; the timer runs from the Busy reply.
-fn deferred(e: Endpoint, clock: u64, f: Fields) -> Endpoint
-    ensures { λ r. ⌜ r ≡ deferredOf e clock f ⌝ }
+fn deferred(e: Core, clock: u64, f: Fields) -> Core
+    ensures { λ r. ⌜ r ≡ coreOf (deferredOf (bare e) clock f) ⌝ }
 {
     let mut waiting = with_accepted(f.timestamp, e);
     waiting.since = clock;
@@ -84,8 +80,8 @@ fn deferred(e: Endpoint, clock: u64, f: Fields) -> Endpoint
 }
 
 // What a request that is done leaves once it has its reply.
-fn answered(e: Endpoint, clock: u64, f: Fields) -> Endpoint
-    ensures { λ r. ⌜ r ≡ answeredOf e clock f ⌝ }
+fn answered(e: Core, clock: u64, f: Fields) -> Core
+    ensures { λ r. ⌜ r ≡ coreOf (answeredOf (bare e) clock f) ⌝ }
 {
     let k = f.command;
     if is_busy(e, k) {
@@ -95,8 +91,8 @@ fn answered(e: Endpoint, clock: u64, f: Fields) -> Endpoint
 }
 
 // What a request that is done leaves.
-pub fn taken(e: Endpoint, clock: u64, f: Fields) -> Endpoint
-    ensures { λ r. ⌜ r ≡ takenOf e clock f ⌝ }
+pub fn taken(e: Core, clock: u64, f: Fields) -> Core
+    ensures { λ r. ⌜ r ≡ coreOf (takenOf (bare e) clock f) ⌝ }
 {
     let k = f.command;
     if is(k, Command::Disconnect) {
@@ -105,8 +101,8 @@ pub fn taken(e: Endpoint, clock: u64, f: Fields) -> Endpoint
     answered(e, clock, f)
 }
 
-fn confirmed(e: Endpoint, clock: u64) -> Endpoint
-    ensures { λ r. ⌜ r ≡ confirmedOf e clock ⌝ }
+fn confirmed(e: Core, clock: u64) -> Core
+    ensures { λ r. ⌜ r ≡ coreOf (confirmedOf (bare e) clock) ⌝ }
 {
     let state = e.state;
     let k = request_due(e);
@@ -115,14 +111,14 @@ fn confirmed(e: Endpoint, clock: u64) -> Endpoint
     let mut next = in_state(to, with_pending(Pending::Nothing, e));
     next.since = clock;
     next.setup.measured = m2;
-    next.value = no_value();
+    next.taken = false;
     next
 }
 
 // Nothing is pending, so that the same request is due again; the state stays, and m2; the timer runs from the Busy
 // reply.
-fn due_again(e: Endpoint, clock: u64) -> Endpoint
-    ensures { λ r. ⌜ r ≡ dueAgainOf e clock ⌝ }
+fn due_again(e: Core, clock: u64) -> Core
+    ensures { λ r. ⌜ r ≡ coreOf (dueAgainOf (bare e) clock) ⌝ }
 {
     let mut again = with_pending(Pending::Nothing, e);
     again.since = clock;
@@ -130,8 +126,8 @@ fn due_again(e: Endpoint, clock: u64) -> Endpoint
 }
 
 // What a reply that is done leaves.
-pub fn heard(e: Endpoint, clock: u64, f: Fields) -> Endpoint
-    ensures { λ r. ⌜ r ≡ heardOf e clock f ⌝ }
+pub fn heard(e: Core, clock: u64, f: Fields) -> Core
+    ensures { λ r. ⌜ r ≡ coreOf (heardOf (bare e) clock f) ⌝ }
 {
     if f.busy {
         return due_again(e, clock);

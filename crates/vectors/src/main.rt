@@ -197,7 +197,10 @@ fn wide(b: u8) -> u64 {
 fn check_line(name: &[u8], out: &[u8], n: usize) {
     io::write_all(STDOUT_FILENO, name);
     if n <= out.len() {
-        io::print_decimal(STDOUT_FILENO, frame::read::check_frame(&out[0..n]) as u64);
+        io::print_decimal(
+            STDOUT_FILENO,
+            frame::read::folderpink_check_frame(&out[0..n]) as u64,
+        );
     }
     io::write_all(STDOUT_FILENO, b"\n");
 }

@@ -14,7 +14,7 @@ use Rattle.settings.proofs.is_list.Tie as tie
 cast-are-connections : tie.Need-cast-are-connections
 cast-are-connections c =
     let n = length (c .before .before .args .list .now) in
-    omega (arith, leb-true (n / 7) 8 (and-elim-right (eqb (n % 7) 0 && leb 1 (n / 7)) (leb (n / 7) 8) (c .if1 .taken)))
+    omega (arith, leb-true (n / 7) 64 (and-elim-right (eqb (n % 7) 0 && leb 1 (n / 7)) (leb (n / 7) 64) (c .if1 .taken)))
 
 returns : tie.Need-returns
 unfolding isList

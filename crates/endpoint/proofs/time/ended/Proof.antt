@@ -8,5 +8,4 @@ ended-spec =
     tie.close
     (tie.spec
     (λ c κs. search needs)
-    (λ c κs. search needs)
-    (λ c. rw (c .no-value .ensures, c .before .in-state .ensures)))
+    (λ c. rw (c .in-state .ensures)))

@@ -8,32 +8,33 @@ use Rattle.steps.specs.Deliveries.{takeRefresh, takeReply, deliverOf}
 use Rattle.steps.specs.Says.{StepSays}
 use Rattle.endpoint.specs.declared.Answer.the-variants.{Dropped}
 use Rattle.endpoint.specs.declared.Reason.the-variants as R
+use Rattle.endpoint.specs.Endpoint.{bare}
 use Rattle.steps.proofs.deliver.deliver.Statement.{statement}
 use Rattle.steps.proofs.deliver.deliver.Tie as tie
 
 returns : tie.Need-returns
 returns c =
     let a = c .before .before .before .before .args in
-    short (a .out .now) (a .e) (deliverOf (a .e) (a .clock) (a .f) (a .body .now)) (c .before .if1 .taken)
+    short (a .out .now) (bare (a .e)) (deliverOf (bare (a .e)) (a .clock) (a .f) (a .body .now)) (c .before .if1 .taken)
     (c .stepped .ensures)
 
 returns-2 : tie.Need-returns-2
 returns-2 c =
     let i = c .before .before .before .before in
     let a = i .before .before .before .args in
-    quiet (a .out .now) (a .e) (deliverOf (a .e) (a .clock) (a .f) (a .body .now)) (i .if1 .left) (Dropped R.Echo)
-    (a .e)
-    (deliver-echo (a .e) (a .clock) (a .f) (a .body .now) (c .before .if2 .taken)) (c .stepped2 .ensures)
+    quiet (a .out .now) (bare (a .e)) (deliverOf (bare (a .e)) (a .clock) (a .f) (a .body .now)) (i .if1 .left) (Dropped R.Echo)
+    (bare (a .e))
+    (deliver-echo (bare (a .e)) (a .clock) (a .f) (a .body .now) (c .before .if2 .taken)) (c .stepped2 .ensures)
 
 returns-3 : tie.Need-returns-3
 returns-3 c =
     let k = c .before .before in
     let i = k .before .before .before .before in
     let a = i .before .before .before .args in
-    let o = takeRefresh (a .e) (a .clock) (a .f .timestamp) (a .body .now) in
-    quiet (a .out .now) (a .e) (deliverOf (a .e) (a .clock) (a .f) (a .body .now)) (i .if1 .left) (o .answer)
+    let o = takeRefresh (bare (a .e)) (a .clock) (a .f .timestamp) (a .body .now) in
+    quiet (a .out .now) (bare (a .e)) (deliverOf (bare (a .e)) (a .clock) (a .f) (a .body .now)) (i .if1 .left) (o .answer)
     (o .endpoint)
-    (deliver-refresh (a .e) (a .clock) (a .f) (a .body .now) (k .before .if2 .left)
+    (deliver-refresh (bare (a .e)) (a .clock) (a .f) (a .body .now) (k .before .if2 .left)
     (sym (k .is .ensures) ∙ c .before .if3 .taken))
     (c .take-refresh .ensures)
 
@@ -51,9 +52,9 @@ returns-4 c =
     let i = k .before .before .before .before in
     let a = i .before .before .before .args in
     let o = a .out .now in
-    let q = deliver-request (a .e) (a .clock) (a .f) (a .body .now) (k .before .if2 .left)
+    let q = deliver-request (bare (a .e)) (a .clock) (a .f) (a .body .now) (k .before .if2 .left)
     (sym (k .is .ensures) ∙ j .before .if3 .left) (j .if4 .taken) in
-    roomy o (a .e) (deliverOf (a .e) (a .clock) (a .f) (a .body .now)) (i .if1 .left)
+    roomy o (bare (a .e)) (deliverOf (bare (a .e)) (a .clock) (a .f) (a .body .now)) (i .if1 .left)
     (subst (λ (x : Outcome). StepSays x o (r .take-request .last .1 .1 .1 .1 .0) (r .take-request .result)) (sym q)
     (r .take-request .ensures))
 
@@ -63,10 +64,10 @@ returns-5 c =
     let k = j .before .before in
     let i = k .before .before .before .before in
     let a = i .before .before .before .args in
-    let o = takeReply (a .e) (a .clock) (a .f) (a .body .now) in
-    quiet (a .out .now) (a .e) (deliverOf (a .e) (a .clock) (a .f) (a .body .now)) (i .if1 .left) (o .answer)
+    let o = takeReply (bare (a .e)) (a .clock) (a .f) (a .body .now) in
+    quiet (a .out .now) (bare (a .e)) (deliverOf (bare (a .e)) (a .clock) (a .f) (a .body .now)) (i .if1 .left) (o .answer)
     (o .endpoint)
-    (deliver-reply (a .e) (a .clock) (a .f) (a .body .now) (k .before .if2 .left)
+    (deliver-reply (bare (a .e)) (a .clock) (a .f) (a .body .now) (k .before .if2 .left)
     (sym (k .is .ensures) ∙ j .before .if3 .left) (j .if4 .left))
     (c .take-reply .ensures)
 

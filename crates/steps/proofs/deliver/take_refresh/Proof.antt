@@ -1,20 +1,45 @@
--- `steps::deliver::take_refresh` meets its contract.
+-- `steps::deliver::take_refresh` meets its contract: done, or refused.
 use borrow.Author.Needs.{needs}
+use mathlib.Core.Path.{_≡_, sym, ap, _∙_}
+use Rattle.endpoint.specs.declared.Answer.{Answer}
+use Rattle.endpoint.specs.declared.Answer.the-variants.{Done}
+use Rattle.endpoint.specs.declared.Core.{Core}
+use Rattle.endpoint.specs.Endpoint.{Endpoint, bare, coreOf}
+use Rattle.endpoint.specs.Answers.{leftBy}
+use Rattle.endpoint.specs.Time.{endedOf}
+use Rattle.transitions.specs.ByFrame.{refreshedOf}
+use Rattle.steps.specs.Deliveries.{paddedOf}
+use Rattle.steps.specs.Says.{steppedOf}
+use Rattle.steps.proofs.Firsts.{is-done}
+use Rattle.steps.proofs.Left.{left-refused}
 use Rattle.steps.proofs.deliver.take_refresh.Statement.{statement}
 use Rattle.steps.proofs.deliver.take_refresh.Tie as tie
 
 returns : tie.Need-returns
 returns c =
-    let n = c .before .before in
-    let p = n .before .before in
-    rw (
-      c .stepped .ensures,
-      c .before .left-by .ensures,
-      n .ended .ensures,
-      n .before .refreshed .ensures,
-      p .padded .ensures,
-      p .before .refresh-answer .ensures,
-    )
+    let i = c .before .before in
+    let d = i .before in
+    let s = d .before in
+    let a = s .before .before .args in
+    let e = bare (a .e) in
+    let r = s .refresh-answer .result in
+    let h : r ≡ Done = is-done r (sym (d .is-done .ensures) ∙ i .if1 .taken) in
+    c .stepped .ensures ∙ ap (λ (x : Core). steppedOf Done x 0) (c .before .refreshed .ensures)
+    ∙ sym (ap (λ (x : Answer). steppedOf x (coreOf (leftBy x e (endedOf e) (refreshedOf e (a .clock) (a .stamp) (paddedOf (a .body .now))))) 0)
+    (sym (s .refresh-answer .ensures) ∙ h))
+
+returns-2 : tie.Need-returns-2
+returns-2 c =
+    let i = c .before in
+    let d = i .before in
+    let s = d .before in
+    let a = s .before .before .args in
+    let e = bare (a .e) in
+    let r = s .refresh-answer .result in
+    c .refused .ensures
+    ∙ sym (ap (λ (x : Endpoint). steppedOf r (coreOf x) 0)
+    (left-refused e (endedOf e) (refreshedOf e (a .clock) (a .stamp) (paddedOf (a .body .now))) r (sym (d .is-done .ensures) ∙ i .if1 .left)))
+    ∙ ap (λ (x : Answer). steppedOf x (coreOf (leftBy x e (endedOf e) (refreshedOf e (a .clock) (a .stamp) (paddedOf (a .body .now))))) 0) (s .refresh-answer .ensures)
 
 pub take-refresh-spec : {M : Type 1} → statement M
 take-refresh-spec =
@@ -24,6 +49,6 @@ take-refresh-spec =
     (λ c κs. search needs)
     (λ c κs. search needs)
     (λ c κs. search needs)
+    returns
     (λ c κs. search needs)
-    (λ c κs. search needs)
-    returns)
+    returns-2)

@@ -1,86 +1,136 @@
--- `steps::deliver::take_request` meets its contract: refused or S-Disconnect, and nothing is written; else the reply.
+-- `steps::deliver::take_request` meets its contract: refused, S-Disconnect, which writes nothing, or the reply.
 use borrow.Author.Needs.{needs}
 use lib.ListN.{length}
-use mathlib.Core.Bool.{true}
-use mathlib.Core.Path.{_≡_, sym, _∙_}
-use Rattle.steps.proofs.Firsts.{request-width, neither}
+use mathlib.Core.Bool.{Bool, true, false, _||_, _&&_, cond}
+use mathlib.Core.List.{List}
+use mathlib.Core.Path.{_≡_, sym, ap, _∙_}
+use Prim.Native.Nat.{ℕ}
+use Rattle.frame.specs.declared.Command.the-variants as K
+use Rattle.frame.specs.declared.Fields.{Fields}
+use Rattle.frame.specs.Control.{is}
+use Rattle.frame.specs.Writing.{isBodyLength}
+use Rattle.endpoint.specs.declared.Answer.{Answer}
+use Rattle.endpoint.specs.declared.Core.{Core}
+use Rattle.endpoint.specs.Endpoint.{Endpoint, bare, coreOf}
+use Rattle.endpoint.specs.Answers.{firstOf, isDone, isDropped, isEnded, leftBy}
+use Rattle.endpoint.specs.Due.{isBusy}
+use Rattle.transitions.specs.ByFrame.{endedBy, takenOf}
+use Rattle.steps.specs.Calls.{Outcome, outcome}
+use Rattle.steps.specs.Deliveries.{requestFaults, repliedOf, takeRequest}
+use Rattle.steps.specs.Frames.{Written, nothing, frame, replyFields}
+use Rattle.steps.specs.Says.{steppedOf}
+use Rattle.steps.proofs.Firsts.{request-width}
+use Rattle.steps.proofs.Left.{left-dropped, left-answered}
 use Rattle.steps.proofs.Outcomes.{quiet-step, loud-step}
 use Rattle.steps.proofs.Whole.{setup-length, reply-writable}
-use Rattle.steps.specs.Calls.{outcome}
-use Rattle.steps.specs.Deliveries.{takeRequest}
-use Rattle.steps.specs.Frames.{nothing, frame}
-use Rattle.frame.specs.Writing.{isBodyLength}
 use Rattle.steps.proofs.deliver.take_request.Statement.{statement}
 use Rattle.steps.proofs.deliver.take_request.Tie as tie
 
+-- what a request with this answer comes to
+module _ (e : Endpoint) (t : ℕ) (f : Fields) (body : List ℕ) (a : Answer) (q : a ≡ firstOf (requestFaults e f body)) where
+  abbrev ends : Endpoint
+  ends = endedBy e (f .timestamp)
+
+  abbrev next : Endpoint
+  next = takenOf e t f
+
+  abbrev leaves : Endpoint
+  leaves = cond (isDone a) next ends
+
+  by : takeRequest e t f body ≡ outcome a (leftBy a e ends next) (repliedOf e f body a)
+  by = ap (λ (x : Answer). outcome x (leftBy x e ends next) (repliedOf e f body x)) (sym q)
+
+  abbrev reply : Bool → Bool → Written
+  reply dropped disconnect =
+      cond (dropped || disconnect) nothing
+      (frame (replyFields e f (isDone a && isBusy e (f .command)) (isEnded a)) body)
+
+  dropped-is : isDropped a ≡ true → takeRequest e t f body ≡ outcome a e nothing
+  dropped-is h =
+      by ∙ (λ i. outcome a (left-dropped e ends next a h i) (reply (h i) (is (f .command) K.Disconnect)))
+
+  answered-is : (b : Bool) → isDropped a ≡ false → is (f .command) K.Disconnect ≡ b
+      → takeRequest e t f body ≡ outcome a leaves (reply false b)
+  answered-is b h k = by ∙ (λ i. outcome a (left-answered e ends next a h i) (reply (h i) (k i)))
+
 returns : tie.Need-returns
 returns c =
-    let d = c .before .before .before in
-    let l = d .before in
-    let s = l .before .before .before in
+    let i = c .before in
+    let s = i .before .before in
     let a = s .before .before .before .args in
-    let o = takeRequest (a .e) (a .clock) (a .f) (a .body .now) in
+    let e = bare (a .e) in
     let r = s .request-answer .result in
-    let x = l .left-by .result in
-    let q : o ≡ outcome r x nothing = rw (
-      l .left-by .ensures,
-      l .before .taken .ensures,
-      l .before .before .ended-by .ensures,
-      ← s .request-answer .ensures,
-      ← d .is-dropped .ensures,
-      ← c .before .before .is .ensures,
-      c .before .if1 .taken,
-    ) in
-    quiet-step (a .out .now) o r x q (c .stepped .ensures)
+    quiet-step (a .out .now) (takeRequest e (a .clock) (a .f) (a .body .now)) r e
+    (dropped-is e (a .clock) (a .f) (a .body .now) r (s .request-answer .ensures)
+    (sym (i .before .is-dropped .ensures) ∙ i .if1 .taken)) (c .stepped .ensures)
+
+returns-2 : tie.Need-returns-2
+returns-2 c =
+    let j = c .before in
+    let k = j .before in
+    let l = k .before in
+    let d = l .before in
+    let i = d .before in
+    let s = i .before .before in
+    let a = s .before .before .before .args in
+    let e = bare (a .e) in
+    let r = s .request-answer .result in
+    quiet-step (a .out .now) (takeRequest e (a .clock) (a .f) (a .body .now)) r
+    (leaves e (a .clock) (a .f) (a .body .now) r (s .request-answer .ensures))
+    (answered-is e (a .clock) (a .f) (a .body .now) r (s .request-answer .ensures) true
+    (sym (i .before .is-dropped .ensures) ∙ i .if1 .left) (sym (k .is .ensures) ∙ j .if2 .taken))
+    (c .stepped2 .ensures ∙ ap (λ (x : Core). steppedOf r x 0) (l .left .ensures
+    ∙ ap (λ (b : Bool). coreOf (cond b (takenOf e (a .clock) (a .f)) (endedBy e (a .f .timestamp)))) (d .is-done .ensures)))
 
 write-whole-requires : tie.Need-write-whole-requires
 write-whole-requires c κs =
     let f = c .before in
     let b = f .before .before in
-    let i = b .before .before in
-    let d = i .before .before in
-    let s = d .before .before .before .before in
+    let j = b .before in
+    let k = j .before in
+    let d = k .before .before in
+    let i = d .before in
+    let s = i .before .before in
     let t = s .before .before .before in
     let a = t .args in
+    let e = bare (a .e) in
     let x = a .body .now in
-    let n = neither (d .is-dropped .result) (i .before .is .result) (i .if1 .left) in
-    let w = request-width (a .e) (a .f) x (rw (← s .request-answer .ensures) (sym (d .is-dropped .ensures) ∙ n .0)) in
+    let w = request-width e (a .f) x
+    (rw (← s .request-answer .ensures) (sym (i .before .is-dropped .ensures) ∙ i .if1 .left)) in
     let l : isBodyLength (length x) ≡ true = rw w (setup-length (a .e .settings) (a .f .command)) in (
       t .pre .0,
       rw (f .reply-fields .ensures, b .is-busy .ensures)
-          (reply-writable (a .e) (a .clock) (a .f) (b .before .is-done .result) (f .before .is-ended .result) (length x)
+          (reply-writable e (a .clock) (a .f) (d .is-done .result) (f .before .is-ended .result) (length x)
           (t .pre .1)
-          (sym (i .before .is .ensures) ∙ n .1) l),
+          (sym (k .is .ensures) ∙ j .if2 .left) l),
     )
 
-returns-2 : tie.Need-returns-2
-returns-2 c =
+returns-3 : tie.Need-returns-3
+returns-3 c =
     let w = c .before .before .before in
     let f = w .before .before in
     let b = f .before .before in
-    let i = b .before .before in
-    let d = i .before .before in
-    let l = d .before in
-    let s = l .before .before .before in
+    let j = b .before in
+    let k = j .before in
+    let l = k .before in
+    let d = l .before in
+    let i = d .before in
+    let s = i .before .before in
     let a = s .before .before .before .args in
-    let o = takeRequest (a .e) (a .clock) (a .f) (a .body .now) in
+    let e = bare (a .e) in
     let r = s .request-answer .result in
-    let x = l .left-by .result in
-    let q : o ≡ outcome r x (frame (f .reply-fields .result) (a .body .now)) = rw (
-      f .reply-fields .ensures,
-      f .before .is-ended .ensures,
-      b .is-busy .ensures,
-      b .before .is-done .ensures,
-      l .left-by .ensures,
-      l .before .taken .ensures,
-      l .before .before .ended-by .ensures,
-      ← s .request-answer .ensures,
-      ← d .is-dropped .ensures,
-      ← i .before .is .ensures,
-      i .if1 .left,
-    ) in
-    loud-step (a .out .now) o r x (f .reply-fields .result) (a .body .now) q (w .write-whole .ensures)
-    (c .stepped2 .ensures)
+    let g : f .reply-fields .result ≡ replyFields e (a .f) (isDone r && isBusy e (a .f .command)) (isEnded r) =
+    f .reply-fields .ensures
+    ∙ (λ n. replyFields e (a .f) (d .is-done .ensures n && b .is-busy .ensures n) (f .before .is-ended .ensures n)) in
+    loud-step (a .out .now) (takeRequest e (a .clock) (a .f) (a .body .now)) r
+    (leaves e (a .clock) (a .f) (a .body .now) r (s .request-answer .ensures)) (f .reply-fields .result) (a .body .now)
+    (answered-is e (a .clock) (a .f) (a .body .now) r (s .request-answer .ensures) false
+    (sym (i .before .is-dropped .ensures) ∙ i .if1 .left) (sym (k .is .ensures) ∙ j .if2 .left)
+    ∙ ap (λ (x : Fields). outcome r (leaves e (a .clock) (a .f) (a .body .now) r (s .request-answer .ensures))
+    (frame x (a .body .now))) (sym g))
+    (w .write-whole .ensures)
+    (c .stepped3 .ensures ∙ ap (λ (x : Core). steppedOf r x (w .write-whole .result)) (l .left .ensures
+    ∙ ap (λ (b : Bool). coreOf (cond b (takenOf e (a .clock) (a .f)) (endedBy e (a .f .timestamp)))) (d .is-done .ensures)))
 
 pub take-request-spec : {M : Type 1} → statement M
 take-request-spec =
@@ -89,16 +139,16 @@ take-request-spec =
     (λ c κs. search needs)
     (λ c κs. search needs)
     (λ c κs. search needs)
-    (λ c κs. search needs)
-    (λ c κs. search needs)
-    (λ c κs. search needs)
-    (λ c κs. search needs)
     returns
     (λ c κs. search needs)
+    (λ c κs. search needs)
+    (λ c κs. search needs)
+    (λ c κs. search needs)
+    returns-2
     (λ c κs. search needs)
     (λ c κs. search needs)
     (λ c κs. search needs)
     write-whole-requires
     (λ c κs. search needs)
     (λ c. search needs)
-    returns-2)
+    returns-3)

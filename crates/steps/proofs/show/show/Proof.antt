@@ -3,6 +3,8 @@ use borrow.Author.Needs.{needs}
 use mathlib.Core.Path.{refl}
 use native.Mathlib.Omega.{arith}
 use Rattle.steps.proofs.Shows.{show-width-le, no-room, shown}
+use Rattle.endpoint.specs.Endpoint.{bare}
+use Rattle.steps.specs.Values.{withBytes}
 use Rattle.steps.proofs.show.show.Statement.{statement}
 use Rattle.steps.proofs.show.show.Tie as tie
 
@@ -10,12 +12,12 @@ returns : tie.Need-returns
 returns c =
     let f = c .before in
     let a = f .before .before .args in
-    no-room (a .e) (a .out .now) _ (c .if1 .taken) refl (f .is-fail-safe .ensures)
+    no-room (withBytes (a .value) (bare (a .e))) (a .out .now) _ (c .if1 .taken) refl (f .is-fail-safe .ensures)
 
 copy-out-requires : tie.Need-copy-out-requires
 copy-out-requires c κs =
-    let n = c .before .before .before in
-    let a = n .before .before .before .before .before .before .args in
+    let n = c .before .before in
+    let a = n .before .before .before .before .before .args in
     let w = show-width-le (a .e .settings) in
     (omega (arith, n .show-width .ensures), omega (arith, n .show-width .ensures))
 
@@ -23,11 +25,11 @@ returns-2 : tie.Need-returns-2
 returns-2 c =
     let o = c .before .before in
     let v = o .before .before in
-    let n = v .before .before in
-    let i = n .before .before .before in
+    let n = v .before in
+    let i = n .before .before in
     let f = i .before in
     let a = f .before .before .args in
-    shown (a .e) (a .out .now) _ (v .value-of .result) (i .if1 .left) (n .show-width .ensures)
+    shown (withBytes (a .value) (bare (a .e))) (a .out .now) _ (v .value-of .result) (i .if1 .left) (n .show-width .ensures)
     (f .is-fail-safe .ensures)
     (rw (f .is-fail-safe .ensures) at (v .value-of .ensures .0)) (v .value-of .ensures .1) (o .copy-out .ensures)
 

@@ -21,7 +21,7 @@ are-settings-requires : tie.Need-are-settings-requires
 are-settings-requires c κs =
     let s = c .before .before .before .args .line .now in
     let n = 4 + 9 * settingCount s in
-    omega (arith, eqb-true (length s) n (and-elim-left (eqb (length s) n) (leb (settingCount s) 64) (c .if2 .taken)))
+    omega (arith, eqb-true (length s) n (and-elim-left (eqb (length s) n) (leb (settingCount s) 450) (c .if2 .taken)))
 
 returns-2 : tie.Need-returns-2
 unfolding isLoad

@@ -1,7 +1,7 @@
 -- `text::parse::call_of` meets its contract: each arm is the definition's at its name.
 use mathlib.Core.Path.{sym, ap, _∙_}
 use Rattle.text.specs.declared.parse.Name.{Name}
-use Rattle.text.specs.Calls.{timedIn, sendIn, deliverIn, checkIn, roomOf, callOf}
+use Rattle.text.specs.Calls.{timedIn, sendIn, deliverIn, checkIn, setOf, callOf}
 use Rattle.text.specs.Reading.{numberOf}
 use borrow.Author.Needs.{needs}
 use Rattle.text.proofs.parse.call_of.Statement.{statement}
@@ -62,16 +62,16 @@ returns-6 c =
 returns-7 : tie.Need-returns-7
 unfolding callOf
 returns-7 c =
-    let m = c .before .before in
+    let m = c .before .before .before in
     let r = m .before .before in
     let s = r .before .before .args .line .now in
-    c .room-of .ensures
-    ∙ ap roomOf (c .before .number-of .ensures ∙ ap numberOf (r .rest .ensures .0))
-    ∙ ap (λ (n : Name). callOf n s) (sym (m .enum-told5 .given .1))
+    c .set-of .ensures
+    ∙ ap (setOf _) (c .before .number-of .ensures ∙ ap numberOf (r .rest .ensures .0))
+    ∙ ap (λ (n : Name). callOf n s) (sym (m .name2 .given .1))
 
 returns-8 : tie.Need-returns-8
 unfolding callOf
-returns-8 c = rw (c .enum-told6 .given .1)
+returns-8 c = rw (c .enum-told5 .given .1)
 
 pub call-of-spec : {M : Type 1} → statement M
 call-of-spec =

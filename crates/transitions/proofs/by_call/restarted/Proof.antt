@@ -3,10 +3,12 @@ use borrow.Author.Needs.{needs}
 use Rattle.transitions.proofs.by_call.restarted.Statement.{statement}
 use Rattle.transitions.proofs.by_call.restarted.Tie as tie
 
+returns : tie.Need-returns
+returns c = rw (c .in-state .ensures)
+
 pub restarted-spec : {M : Type 1} → statement M
 restarted-spec =
     tie.close
     (tie.spec
     (λ c κs. search needs)
-    (λ c κs. search needs)
-    (λ c. rw (c .no-value .ensures, c .before .in-state .ensures)))
+    returns)

@@ -3,11 +3,17 @@ use borrow.Author.Needs.{needs}
 use Rattle.transitions.proofs.by_call.started.Statement.{statement}
 use Rattle.transitions.proofs.by_call.started.Tie as tie
 
+returns : tie.Need-returns
+returns c =
+    rw (
+      c .before .in-state .ensures,
+      c .before .before .with-pending .ensures,
+    )
+
 pub started-spec : {M : Type 1} → statement M
 started-spec =
     tie.close
     (tie.spec
     (λ c κs. search needs)
     (λ c κs. search needs)
-    (λ c κs. search needs)
-    (λ c. let i = c .before .before in rw (c .no-value .ensures, i .in-state .ensures, i .before .with-pending .ensures)))
+    returns)

@@ -5,24 +5,19 @@ use Rattle.transitions.proofs.by_frame.confirmed.Tie as tie
 
 returns : tie.Need-returns
 returns c =
-    let i = c .before .before in
-    let s = i .before .before in
-    let m = s .before .before in
     rw (
-      c .no-value .ensures,
-      i .in-state .ensures,
-      i .before .with-pending .ensures,
-      s .state-to .ensures,
-      s .before .next-state .ensures,
-      m .measured-by .ensures,
-      m .before .request-due .ensures,
+      c .before .in-state .ensures,
+      c .before .before .with-pending .ensures,
+      c .before .before .before .state-to .ensures,
+      c .before .before .before .before .next-state .ensures,
+      c .before .before .before .before .before .measured-by .ensures,
+      c .before .before .before .before .before .before .request-due .ensures,
     )
 
 pub confirmed-spec : {M : Type 1} → statement M
 confirmed-spec =
     tie.close
     (tie.spec
-    (λ c κs. search needs)
     (λ c κs. search needs)
     (λ c κs. search needs)
     (λ c κs. search needs)

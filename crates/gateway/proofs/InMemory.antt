@@ -1,0 +1,44 @@
+-- The layout of what C lends and is handed, as the memory model of the proofs has it: include/folderpink.h states the same
+-- numbers, and the C compiler tests them.
+use mathlib.Core.Path.{_≡_, refl}
+use Prim.Native.Nat.{ℕ, zero, suc}
+use mathlib.Core.List.{List, [], _∷_}
+use mathlib.Core.Option.{Option, some, none}
+use mir.Syntax.{Ty}
+use prog.Memory.{size, align, fieldOf}
+use Rattle.lent.proofs.Data.{Data, of-struct}
+use Rattle.gateway.proofs.Gateway as G
+use Rattle.gateway.proofs.Gateway.Laws as G′
+use Rattle.gateway.proofs.Types.{rec, stored, call, called}
+
+abbrev gateway : Data
+gateway = of-struct G.the-type G′.the-laws
+
+abbrev startOf : Option (Ty × ℕ) → ℕ
+startOf none = 0
+startOf (some f) = f .1
+
+-- where n fields start, from field k on
+abbrev starts : Ty → ℕ → ℕ → List ℕ
+starts t k zero = []
+starts t k (suc n) = startOf (fieldOf t k) ∷ starts t (suc k) n
+
+-- a struct's bytes, its alignment, and where its fields start
+abbrev Lies : Data → ℕ → ℕ → ℕ → List ℕ → Type 0
+Lies d bytes by n at = (size (d .ty) ≡ bytes) × (align (d .ty) ≡ by) × (starts (d .ty) 0 n ≡ at)
+
+pub stored-lies : Lies stored 80 8 21
+    (0 ∷ 8 ∷ 16 ∷ 24 ∷ 32 ∷ 40 ∷ 48 ∷ 52 ∷ 56 ∷ 60 ∷ 64 ∷ 68 ∷ 69 ∷ 70 ∷ 71 ∷ 72 ∷ 73 ∷ 74 ∷ 75 ∷ 76 ∷ 77 ∷ [])
+stored-lies = (refl, refl, refl)
+
+pub record-lies : Lies rec 184 8 2 (0 ∷ 80 ∷ [])
+record-lies = (refl, refl, refl)
+
+pub gateway-lies : Lies gateway 16 8 2 (0 ∷ 8 ∷ [])
+gateway-lies = (refl, refl, refl)
+
+pub call-lies : Lies call 40 8 4 (0 ∷ 16 ∷ 24 ∷ 32 ∷ [])
+call-lies = (refl, refl, refl)
+
+pub called-lies : Lies called 40 8 6 (0 ∷ 16 ∷ 24 ∷ 32 ∷ 33 ∷ 34 ∷ [])
+called-lies = (refl, refl, refl)

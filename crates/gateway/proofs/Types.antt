@@ -1,0 +1,157 @@
+-- The types of the calls, as the laws of `lent` take them, and the two fields of a record.
+use mathlib.Core.Path.{refl}
+use mir.Syntax.{w8, w64}
+use types.Part.{whole, sub}
+use denote.Struct.Laws as LL
+use Rattle.lent.proofs.Data.{Data, Plain, of-struct, struct-plain, of-uint, uint-plain, of-array, array-plain}
+use Rattle.lent.proofs.Field.{Inside, array-in}
+use Rattle.lent.proofs.Plain.{Plains}
+use Rattle.lent.proofs.Settle as settle
+use Rattle.lent.proofs.Load as load
+use Rattle.gateway.specs.Parts.{withStored, withValue}
+use Rattle.records.proofs.Stored as F
+use Rattle.records.proofs.Stored.Laws as F′
+use Rattle.records.proofs.Record as R
+use Rattle.records.proofs.Record.Laws as R′
+use Rattle.gateway.proofs.Call as N
+use Rattle.gateway.proofs.Call.Laws as N′
+use Rattle.gateway.proofs.Sought as C
+use Rattle.gateway.proofs.Sought.Laws as C′
+use Rattle.gateway.proofs.Picked as P
+use Rattle.gateway.proofs.Picked.Laws as P′
+use Rattle.gateway.proofs.Moved as S
+use Rattle.gateway.proofs.Moved.Laws as S′
+use Rattle.gateway.proofs.Plan as L
+use Rattle.gateway.proofs.Plan.Laws as L′
+use Rattle.gateway.proofs.Called as O
+use Rattle.gateway.proofs.Called.Laws as O′
+
+abbrev pub rec : Data
+rec = of-struct R.the-type R′.the-laws
+
+abbrev pub rec-plain : Plain rec
+rec-plain = struct-plain R.the-type R′.the-laws R′.the-plain
+
+abbrev pub stored : Data
+stored = of-struct F.the-type F′.the-laws
+
+abbrev pub stored-plain : Plain stored
+stored-plain = struct-plain F.the-type F′.the-laws F′.the-plain
+
+abbrev pub value : Data
+value = of-array (of-uint w8) 100
+
+abbrev pub value-plain : Plain value
+value-plain = array-plain (of-uint w8) (uint-plain w8) 100
+
+-- where the fields lie
+abbrev pub stored-in : Inside rec stored
+stored-in = record {
+  key = 0;
+  off = 0;
+  get = λ r. r .stored;
+  put = withStored;
+  lies = refl;
+  part = λ t q b o r. sub t 0 refl (whole t);
+  after-is = λ r x. refl;
+  has = λ r is. LL.owed R.the-type R′.the-laws r _ is .0;
+  puts = λ r x is is-x. LL.owes R.the-type R′.the-laws (withStored r x)
+      (is-x, LL.owed R.the-type R′.the-laws r _ is .1);
+}
+
+abbrev pub value-in : Inside rec value
+value-in =
+    array-in rec w8 100 1 80 (λ r. r .value) withValue refl (λ M 𝓤 H A K W t q b o r. sub t 1 refl (whole t))
+    (λ r x. refl)
+    (λ r is. LL.owed R.the-type R′.the-laws r _ is .1 .0)
+    (λ r x is is-x. let w = LL.owed R.the-type R′.the-laws r _ is in
+    LL.owes R.the-type R′.the-laws (withValue r x) (w .0, (is-x, w .1 .1)))
+
+abbrev pub call : Data
+call = of-struct N.the-type N′.the-laws
+
+abbrev pub call-plain : Plain call
+call-plain = struct-plain N.the-type N′.the-laws N′.the-plain
+
+abbrev pub sought : Data
+sought = of-struct C.the-type C′.the-laws
+
+abbrev pub sought-plain : Plain sought
+sought-plain = struct-plain C.the-type C′.the-laws C′.the-plain
+
+abbrev pub pick : Data
+pick = of-struct P.the-type P′.the-laws
+
+abbrev pub pick-plain : Plain pick
+pick-plain = struct-plain P.the-type P′.the-laws P′.the-plain
+
+abbrev pub move : Data
+move = of-struct S.the-type S′.the-laws
+
+abbrev pub called : Data
+called = of-struct O.the-type O′.the-laws
+
+abbrev pub plains : Plains call pick move called
+plains = record {
+  n-plain = call-plain;
+  p-plain = pick-plain;
+  s-plain = struct-plain S.the-type S′.the-laws S′.the-plain;
+  o-plain = struct-plain O.the-type O′.the-laws O′.the-plain;
+}
+
+-- what is stored; the numbers are the offsets of the fields in bytes
+abbrev pub kinds : settle.Types rec stored value called (of-uint w64) move
+kinds = record {
+  ν = S.the-type .name;
+  core = λ s. s .stored;
+  told = λ s. s .told;
+  steps = λ s. s .steps;
+  clock = λ s. s .clock;
+  spot = λ s. s .spot;
+  wipe = λ s. s .wipe;
+  spare = λ s. s .keep;
+  in-f = stored-in;
+  in-g = value-in;
+  r-plain = rec-plain;
+  f-plain = stored-plain;
+  g-plain = value-plain;
+  o-plain = plains .o-plain;
+  c-plain = uint-plain w64;
+  s-plain = plains .s-plain;
+  r-small = tt;
+  told-off = 80;
+  steps-off = 120;
+  clock-off = 128;
+  place-off = 136;
+  wipe-off = 144;
+  core-at = refl;
+  told-at = refl;
+  steps-at = refl;
+  clock-at = refl;
+  place-at = refl;
+  wipe-at = refl;
+  core-is = λ s v is. LL.owed S.the-type S′.the-laws s _ is .0;
+  told-is = λ s v is. LL.owed S.the-type S′.the-laws s _ is .1 .0;
+  clock-is = λ s v is. LL.owed S.the-type S′.the-laws s _ is .1 .1 .1 .0;
+  spot-is = λ s v is. LL.owed S.the-type S′.the-laws s _ is .1 .1 .1 .1 .0 .1;
+  wipe-is = λ s v is. LL.owed S.the-type S′.the-laws s _ is .1 .1 .1 .1 .1 .0 .1;
+}
+
+-- loading
+abbrev pub plan : Data
+plan = of-struct L.the-type L′.the-laws
+
+abbrev pub load-kinds : load.Types rec called plan
+load-kinds = record {
+  ν = L.the-type .name;
+  told = λ s. s .told;
+  count = λ s. s .count;
+  r-plain = rec-plain;
+  o-plain = plains .o-plain;
+  s-plain = struct-plain L.the-type L′.the-laws L′.the-plain;
+  r-small = tt;
+  count-off = 40;
+  told-at = refl;
+  count-at = refl;
+  told-is = λ s v is. LL.owed L.the-type L′.the-laws s _ is .0;
+}

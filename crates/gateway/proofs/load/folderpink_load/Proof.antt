@@ -1,0 +1,78 @@
+-- `gateway::load::folderpink_load` meets its contract: Load of `lent`.
+use mathlib.Core.Path.{_≡_, refl, sym, ap, subst, _∙_}
+use mathlib.Core.Bool.{Bool, true, false, cond}
+use mathlib.Core.List.{List}
+use Prim.Native.Nat.{ℕ, _%_, _<_}
+use native.Mathlib.Omega.{arith}
+use lib.Dec.{ltb}
+use lib.ListN.{length}
+use denote.Builtin.{u32}
+use Rattle.settings.specs.Lists.{countOf, isList}
+use Rattle.settings.proofs.Lists.{count-le}
+use Rattle.steps.proofs.Keeps.{bcase}
+use Rattle.records.specs.declared.Record.{Record}
+use Rattle.gateway.specs.declared.Plan.{Plan}
+use Rattle.gateway.specs.declared.Called.{Called}
+use Rattle.lent.specs.First.{filled, filled-alike}
+use Rattle.gateway.specs.Tables.{lent}
+use Rattle.gateway.specs.Loading.{freshAt, loadedWith, loadedOf}
+use Rattle.gateway.specs.Calls.{LoadSays}
+use Rattle.gateway.specs.Parts.{planOf, planWith}
+use Rattle.gateway.proofs.Types.{rec, called, plan, load-kinds}
+use Rattle.lent.proofs.Load.{load-meets}
+use contract.Running.{givenOf, tables, tablesOf}
+use denote.Triple.Spec.{tripleOf}
+use denote.Triple.Table.{entered, cited}
+use Rattle.gateway.proofs.load.planned as planned
+use Rattle.gateway.proofs.load.planned.Symbol as planned-def
+use Rattle.gateway.proofs.load.planned.Symbol.{name as #planned}
+use Rattle.gateway.proofs.load.planned.Met as planned-thm
+use Rattle.gateway.proofs.load.make as make
+use Rattle.gateway.proofs.load.make.Symbol as make-def
+use Rattle.gateway.proofs.load.make.Symbol.{name as #make}
+use Rattle.gateway.proofs.load.make.Met as make-thm
+use Rattle.gateway.proofs.load.folderpink_load.Key.{name as #folderpink-load}
+use Rattle.gateway.proofs.load.folderpink_load as f
+use Rattle.gateway.proofs.load.folderpink_load.Statement as stated
+use Rattle.gateway.proofs.load.folderpink_load.Code as code
+
+abbrev made : List ℕ → ℕ → Record
+made ws i = freshAt ws (i % 256)
+
+abbrev PlanSaid : List ℕ → ℕ → Plan → Type 0
+PlanSaid ws n s = s ≡ planOf ws n
+
+abbrev Then : List Record → List ℕ → Called → List Record → Type 0
+Then ys ws r zs = LoadSays ws ys zs r
+
+-- of a right list all connections have their record
+same-made : (ws : List ℕ) (ys : List Record) → isList ws ≡ true
+    → filled (made ws) (countOf ws) ys ≡ filled (freshAt ws) (countOf ws) ys
+same-made ws ys h =
+    let l = count-le ws h in
+    filled-alike (made ws) (freshAt ws) (countOf ws) ys
+    (λ i k. ap (freshAt ws) (let e : i % 256 ≡ i = omega (arith, l, k) in e))
+
+by : (ws : List ℕ) (ys : List Record) (b s : Bool) → isList ws ≡ b → ltb (length ys) (countOf ws) ≡ s
+    → LoadSays ws ys (filled (made ws) (planOf ws (length ys) .count) ys) (planOf ws (length ys) .told)
+by ws ys false s l h = record { told = rw l; left = rw l }
+by ws ys true true l h = record { told = rw (l, h); left = rw (l, h) }
+by ws ys true false l h = record { told = rw (l, h); left = rw (l, h) (same-made ws ys l) }
+
+follows : (ys : List Record) (ws : List ℕ) (s : Plan) → PlanSaid ws (length ys) s
+    → Then ys ws (s .told) (filled (made ws) (s .count) ys)
+follows ys ws s e =
+    subst (λ (p : Plan). LoadSays ws ys (filled (made ws) (p .count) ys) (p .told)) (sym e)
+    (by ws ys (isList ws) (ltb (length ys) (countOf ws)) refl refl)
+
+pub folderpink-load-spec : {M : Type 1} → stated.statement M
+unfolding code.routine tablesOf
+folderpink-load-spec 𝓤 H 𝓜 𝓖 𝓡 =
+    entered 𝓤 H (tripleOf 𝓤 H (𝓖 .A) f.signature (f.spec 𝓤 H (𝓖 .A) (𝓜 .mem) (𝓡 .run)))
+    (tables 𝓤 H 𝓜 𝓡 code.env .C) (tables 𝓤 H 𝓜 𝓡 code.env .Λ) #folderpink-load code.function (code.unfolded 𝓤 H 𝓜 𝓡)
+    (load-meets rec called plan u32 load-kinds #planned #make made PlanSaid Then follows
+    𝓤 H (𝓖 .A) (givenOf 𝓤 H 𝓜 𝓖) (tablesOf 𝓤 H 𝓜 (tables 𝓤 H 𝓜 𝓡 code.env))
+    (cited 𝓤 H (tripleOf 𝓤 H (𝓖 .A) planned.signature (planned.spec 𝓤 H (𝓖 .A) (𝓜 .mem) (𝓡 .run))) 𝓜 𝓡 code.env #planned
+    planned-def.routine code.calls-gateway·load·planned (planned-thm.met 𝓤 H 𝓜 𝓖 𝓡))
+    (cited 𝓤 H (tripleOf 𝓤 H (𝓖 .A) make.signature (make.spec 𝓤 H (𝓖 .A) (𝓜 .mem) (𝓡 .run))) 𝓜 𝓡 code.env #make
+    make-def.routine code.calls-gateway·load·make (make-thm.met 𝓤 H 𝓜 𝓖 𝓡)))

@@ -1,0 +1,75 @@
+// Loading a settings list.
+ghost use mathlib.Core.Path.{_≡_};
+ghost use lib.ListN.{length};
+ghost use Prim.Native.Nat.{_%_};
+ghost use Rattle.gateway.specs.Loading.{freshAt, loadedWith};
+ghost use Rattle.gateway.specs.Calls.{LoadSays};
+ghost use Rattle.gateway.specs.Parts.{planWith, planOf};
+use super::Called;
+use super::Gateway;
+use super::Plan;
+use super::moves::tell;
+use endpoint::Answer;
+use endpoint::Reason;
+use records::Record;
+use records::stored_of;
+use transitions::by_call::fresh;
+
+fn loaded_with(count: usize) -> Gateway
+    ensures { λ r. ⌜ r ≡ loadedWith count ⌝ }
+{
+    Gateway {
+        last: 0,
+        count: count,
+    }
+}
+
+// The size of the table, and how many records are made.
+fn planned_with(a: Answer, table: usize, made: usize) -> Plan
+    ensures { λ r. ⌜ r ≡ planWith a table made ⌝ }
+{
+    Plan {
+        told: tell(loaded_with(table), a, false, 0, 0, false),
+        count: made,
+    }
+}
+
+// The answer, and how many records are made.
+fn planned(list: &[u32], n: usize) -> Plan
+    ensures { λ r. ⌜ r ≡ planOf (now (list .entry)) n ⌝ }
+{
+    if !settings::is_list(list) {
+        return planned_with(Answer::Dropped(Reason::Settings), 0, 0);
+    }
+    let count = list.len() / 7;
+    if n < count {
+        return planned_with(Answer::Dropped(Reason::Buffer), 0, 0);
+    }
+    planned_with(Answer::Done, count, count)
+}
+
+// The record of a list's connection, in Close.
+fn make(list: &[u32], i: usize) -> Record
+    ensures { λ r. ⌜ r ≡ freshAt (now (list .entry)) (i % 256) ⌝ }
+{
+    let stored = stored_of(fresh(settings::settings_at(list, (i % 256) as u8)));
+    Record {
+        stored: stored,
+        value: [0; 100],
+    }
+}
+
+// Done with the list's connections in the first records; or 18, or 2 for a slice that is too short, and none.
+#[no_mangle]
+pub extern "C" fn folderpink_load(rs: &mut [Record], list: &[u32]) -> Called
+    ensures { λ r. ⌜ LoadSays (now (list .entry)) (now (rs .entry)) (now (rs .exit)) r ⌝ }
+{
+    let n = rs.len();
+    let s = planned(list, n);
+    let mut i = 0;
+    while (i < s.count) & (i < rs.len()) {
+        rs[i] = make(list, i);
+        i += 1;
+    }
+    s.told
+}

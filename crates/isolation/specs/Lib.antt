@@ -1,0 +1,2 @@
+-- A connection of a gateway beside the others.
+pub mod Isolation

@@ -1,0 +1,1 @@
+// A connection of a gateway beside the others: definitions and theorems, no code.

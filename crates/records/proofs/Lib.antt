@@ -1,0 +1,2 @@
+-- The inverse of records and endpoints.
+pub mod Records

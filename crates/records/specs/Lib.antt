@@ -1,0 +1,2 @@
+-- Records in memory and the endpoints that they are.
+pub mod Records

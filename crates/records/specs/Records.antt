@@ -1,0 +1,140 @@
+-- A record is an endpoint in numbers and bytes: every record is an endpoint's, whatever it holds, and every endpoint has
+-- its record.
+use mathlib.Core.Path.{_≡_}
+use mathlib.Core.Bool.{Bool, true, false, not, cond}
+use mathlib.Core.List.{List}
+use Prim.Native.Nat.{ℕ}
+use lib.Dec.{eqb}
+use Rattle.endpoint.specs.declared.State.{State}
+use Rattle.endpoint.specs.declared.State.the-variants.{Close, Starting, EstablishPending, Establish, ParamVerify}
+use Rattle.endpoint.specs.declared.State.the-variants.{RefreshPending, Refresh, Terminate}
+use Rattle.endpoint.specs.declared.Timestamp.{Timestamp}
+use Rattle.endpoint.specs.declared.Timestamp.the-variants.{Never, At}
+use Rattle.endpoint.specs.declared.Pending.{Pending}
+use Rattle.endpoint.specs.declared.Pending.the-variants.{Nothing, Asked}
+use Rattle.endpoint.specs.Endpoint.{Endpoint, noBytes}
+use Rattle.endpoint.specs.Table.{rowOf}
+use Rattle.endpoint.specs.Time.{Tidy}
+use Rattle.records.specs.declared.Stored.{Stored}
+use Rattle.records.specs.declared.Record.{Record}
+
+-- ---- flags and numbers
+abbrev pub isSet : ℕ → Bool
+isSet x = not (eqb x 0)
+
+abbrev pub flagOf : Bool → ℕ
+flagOf b = cond b 1 0
+
+-- past the eight states a number is Terminate's
+abbrev pub stateFrom : ℕ → State
+stateFrom x =
+    cond (eqb x 0) Close
+    (cond (eqb x 1) Starting
+    (cond (eqb x 2) EstablishPending
+    (cond (eqb x 3) Establish
+    (cond (eqb x 4) ParamVerify
+    (cond (eqb x 5) RefreshPending
+    (cond (eqb x 6) Refresh Terminate))))))
+
+abbrev pub timestampFrom : Bool → ℕ → Timestamp
+timestampFrom true t = At t
+timestampFrom false t = Never
+
+abbrev pub isAt : Timestamp → Bool
+isAt Never = false
+isAt (At t) = true
+
+abbrev pub timeIn : Timestamp → ℕ
+timeIn Never = 0
+timeIn (At t) = t
+
+abbrev pub pendingFrom : Bool → ℕ → Pending
+pendingFrom true t = Asked t
+pendingFrom false t = Nothing
+
+abbrev pub isAsked : Pending → Bool
+isAsked Nothing = false
+isAsked (Asked t) = true
+
+abbrev pub askedIn : Pending → ℕ
+askedIn Nothing = 0
+askedIn (Asked t) = t
+
+-- ---- a record and its endpoint
+-- the endpoint that is stored, with the bytes of its value
+abbrev pub wholeOf : Stored → List ℕ → Endpoint
+wholeOf s bytes = record {
+  settings = record {
+    connection = s .connection;
+    slave = isSet (s .slave);
+    masterwords = s .masterwords;
+    slavewords = s .slavewords;
+    interval = s .interval;
+    roundtrip = s .roundtrip;
+    age = s .age;
+    station = s .station;
+  };
+  state = stateFrom (s .state);
+  since = s .since;
+  timestamps = record {
+    sent = timestampFrom (isSet (s .hassent)) (s .sent);
+    accepted = timestampFrom (isSet (s .hasaccepted)) (s .accepted);
+  };
+  setup = record {
+    pending = pendingFrom (isSet (s .hasasked)) (s .asked);
+    measured = s .measured;
+    offset = s .offset;
+    requests = s .requests;
+  };
+  station = record { notready = isSet (s .notready) };
+  value = record { taken = isSet (s .taken); bytes = bytes };
+}
+
+-- the same with the value's bytes left out: what a call that does not touch them starts from
+abbrev pub bareOf : Stored → Endpoint
+bareOf s = wholeOf s noBytes
+
+-- the value's bytes count where a value is taken
+abbrev pub heldIn : Record → List ℕ
+heldIn r = cond (isSet (r .stored .taken)) (r .value) noBytes
+
+abbrev pub endpointOf : Record → Endpoint
+endpointOf r = wholeOf (r .stored) (heldIn r)
+
+abbrev pub storedOf : Endpoint → Stored
+storedOf e = record {
+  since = e .since;
+  sent = timeIn (e .timestamps .sent);
+  accepted = timeIn (e .timestamps .accepted);
+  asked = askedIn (e .setup .pending);
+  measured = e .setup .measured;
+  offset = e .setup .offset;
+  connection = e .settings .connection;
+  interval = e .settings .interval;
+  roundtrip = e .settings .roundtrip;
+  age = e .settings .age;
+  station = e .settings .station;
+  state = rowOf (e .state);
+  slave = flagOf (e .settings .slave);
+  masterwords = e .settings .masterwords;
+  slavewords = e .settings .slavewords;
+  hassent = flagOf (isAt (e .timestamps .sent));
+  hasaccepted = flagOf (isAt (e .timestamps .accepted));
+  hasasked = flagOf (isAsked (e .setup .pending));
+  requests = e .setup .requests;
+  notready = flagOf (e .station .notready);
+  taken = flagOf (e .value .taken);
+}
+
+abbrev pub recordWith : Stored → List ℕ → Record
+recordWith s bytes = record { stored = s; value = bytes }
+
+abbrev pub recordOf : Endpoint → Record
+recordOf e = recordWith (storedOf e) (e .value .bytes)
+
+-- ---- the two are inverse
+pub record RecordTheorem : Type 0 where
+  -- the record of an endpoint is that endpoint's
+  pub back : (e : Endpoint) → Tidy e → endpointOf (recordOf e) ≡ e
+  -- and that of any record is such a one
+  pub tidy : (r : Record) → Tidy (endpointOf r)

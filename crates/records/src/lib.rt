@@ -1,0 +1,238 @@
+// A connection's record in memory that a caller lends: numbers and bytes alone, so that C can lend it, and whatever
+// bytes it holds it is some connection's.
+ghost use mathlib.Core.Path.{_≡_};
+ghost use Rattle.endpoint.specs.Endpoint.{bare, coreOf};
+ghost use Rattle.endpoint.specs.Table.{rowOf};
+ghost use Rattle.endpoint.specs.Time.{isExpired};
+ghost use Rattle.records.specs.Records.{isSet, flagOf, stateFrom, timestampFrom, isAt, timeIn, pendingFrom, isAsked};
+ghost use Rattle.records.specs.Records.{askedIn, bareOf, storedOf};
+use endpoint::Core;
+use endpoint::Pending;
+use endpoint::Settings;
+use endpoint::Setup;
+use endpoint::State;
+use endpoint::Station;
+use endpoint::Timestamp;
+use endpoint::Timestamps;
+use endpoint::time::passed;
+
+// All that a connection keeps, but for its value. A flag is 0, or set; a timestamp counts where its flag is set.
+#[repr(C)]
+pub struct Stored {
+    // the clock reading where the timer starts
+    pub since: u64,
+    // the timestamps last sent and last accepted, and that of a master's request that waits for its reply
+    pub sent: u64,
+    pub accepted: u64,
+    pub asked: u64,
+    // s2 or m2, and ts_offset
+    pub measured: u64,
+    pub offset: u64,
+    // the settings
+    pub connection: u32,
+    pub interval: u32,
+    pub roundtrip: u32,
+    pub age: u32,
+    pub station: u32,
+    // 0 Close, 1 Starting, 2 EstablishPending, 3 Establish, 4 ParamVerify, 5 RefreshPending, 6 Refresh; else Terminate
+    pub state: u8,
+    pub slave: u8,
+    pub masterwords: u8,
+    pub slavewords: u8,
+    pub hassent: u8,
+    pub hasaccepted: u8,
+    pub hasasked: u8,
+    // setup requests written since the last start or loading
+    pub requests: u8,
+    pub notready: u8,
+    // whether a value was accepted in this Refresh
+    pub taken: u8,
+}
+
+// A value that was taken, with zeros after it; else the fail-safe value.
+#[repr(C)]
+pub struct Record {
+    pub stored: Stored,
+    pub value: [u8; 100],
+}
+
+pub fn is_set(x: u8) -> bool
+    ensures { λ r. ⌜ r ≡ isSet x ⌝ }
+{
+    x != 0
+}
+
+pub fn flag_of(b: bool) -> u8
+    ensures { λ r. ⌜ r ≡ flagOf b ⌝ }
+{
+    if b { 1 } else { 0 }
+}
+
+fn state_from(x: u8) -> State
+    ensures { λ r. ⌜ r ≡ stateFrom x ⌝ }
+{
+    match x {
+        0 => State::Close,
+        1 => State::Starting,
+        2 => State::EstablishPending,
+        3 => State::Establish,
+        4 => State::ParamVerify,
+        5 => State::RefreshPending,
+        6 => State::Refresh,
+        _ => State::Terminate,
+    }
+}
+
+fn state_number(s: State) -> u8
+    ensures { λ r. ⌜ r ≡ rowOf s ⌝ }
+{
+    match s {
+        State::Close => 0,
+        State::Starting => 1,
+        State::EstablishPending => 2,
+        State::Establish => 3,
+        State::ParamVerify => 4,
+        State::RefreshPending => 5,
+        State::Refresh => 6,
+        State::Terminate => 7,
+    }
+}
+
+fn timestamp_from(has: bool, t: u64) -> Timestamp
+    ensures { λ r. ⌜ r ≡ timestampFrom has t ⌝ }
+{
+    if has {
+        return Timestamp::At(t);
+    }
+    Timestamp::Never
+}
+
+fn is_at(x: Timestamp) -> bool
+    ensures { λ r. ⌜ r ≡ isAt x ⌝ }
+{
+    match x {
+        Timestamp::Never => false,
+        Timestamp::At(_) => true,
+    }
+}
+
+fn time_in(x: Timestamp) -> u64
+    ensures { λ r. ⌜ r ≡ timeIn x ⌝ }
+{
+    match x {
+        Timestamp::Never => 0,
+        Timestamp::At(t) => t,
+    }
+}
+
+fn pending_from(has: bool, t: u64) -> Pending
+    ensures { λ r. ⌜ r ≡ pendingFrom has t ⌝ }
+{
+    if has {
+        return Pending::Asked(t);
+    }
+    Pending::Nothing
+}
+
+fn is_asked(x: Pending) -> bool
+    ensures { λ r. ⌜ r ≡ isAsked x ⌝ }
+{
+    match x {
+        Pending::Nothing => false,
+        Pending::Asked(_) => true,
+    }
+}
+
+fn asked_in(x: Pending) -> u64
+    ensures { λ r. ⌜ r ≡ askedIn x ⌝ }
+{
+    match x {
+        Pending::Nothing => 0,
+        Pending::Asked(t) => t,
+    }
+}
+
+// The core of the endpoint that is stored.
+pub fn core_of(s: Stored) -> Core
+    ensures { λ r. ⌜ r ≡ coreOf (bareOf s) ⌝ }
+{
+    Core {
+        settings: Settings {
+            connection: s.connection,
+            slave: s.slave != 0,
+            masterwords: s.masterwords,
+            slavewords: s.slavewords,
+            interval: s.interval,
+            roundtrip: s.roundtrip,
+            age: s.age,
+            station: s.station,
+        },
+        state: state_from(s.state),
+        since: s.since,
+        timestamps: Timestamps {
+            sent: timestamp_from(s.hassent != 0, s.sent),
+            accepted: timestamp_from(s.hasaccepted != 0, s.accepted),
+        },
+        setup: Setup {
+            pending: pending_from(s.hasasked != 0, s.asked),
+            measured: s.measured,
+            offset: s.offset,
+            requests: s.requests,
+        },
+        station: Station {
+            notready: s.notready != 0,
+        },
+        taken: s.taken != 0,
+    }
+}
+
+// What is stored of an endpoint with this core.
+pub fn stored_of(e: Core) -> Stored
+    ensures { λ r. ⌜ r ≡ storedOf (bare e) ⌝ }
+{
+    let state = e.state;
+    let timestamps = e.timestamps;
+    let sent = timestamps.sent;
+    let accepted = timestamps.accepted;
+    let setup = e.setup;
+    let pending = setup.pending;
+    Stored {
+        since: e.since,
+        sent: time_in(sent),
+        accepted: time_in(accepted),
+        asked: asked_in(pending),
+        measured: setup.measured,
+        offset: setup.offset,
+        connection: e.settings.connection,
+        interval: e.settings.interval,
+        roundtrip: e.settings.roundtrip,
+        age: e.settings.age,
+        station: e.settings.station,
+        state: state_number(state),
+        slave: flag_of(e.settings.slave),
+        masterwords: e.settings.masterwords,
+        slavewords: e.settings.slavewords,
+        hassent: flag_of(is_at(sent)),
+        hasaccepted: flag_of(is_at(accepted)),
+        hasasked: flag_of(is_asked(pending)),
+        requests: setup.requests,
+        notready: flag_of(e.station.notready),
+        taken: flag_of(e.taken),
+    }
+}
+
+// Whether a clock reading ends the connection, by its numbers: every call asks it of every record.
+pub fn is_over(s: Stored, clock: u64) -> bool
+    ensures { λ r. ⌜ r ≡ isExpired (bareOf s) clock ⌝ }
+{
+    if s.state == 6 {
+        return (s.interval as u64) < passed(clock, s.since);
+    }
+    if s.state == 0 {
+        return false;
+    }
+    if s.state < 6 {
+        return (s.roundtrip as u64) < passed(clock, s.since);
+    }
+    false
+}

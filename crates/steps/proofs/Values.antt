@@ -1,0 +1,157 @@
+-- No call but a show looks at the bytes of the value held: each of its ends keeps the value, wipes it or fills it.
+use mathlib.Core.Path.{_≡_, refl, sym, ap, _∙_}
+use mathlib.Core.Bool.{Bool, true, false, _&&_, not, cond, Bool·beq, true≢false}
+use mathlib.Core.List.{List}
+use Prim.Native.Nat.{ℕ}
+use lib.ListN.{length}
+use Rattle.frame.specs.declared.Command.the-variants as K
+use Rattle.frame.specs.declared.Fields.{Fields}
+use Rattle.frame.specs.Control.{is}
+use Rattle.endpoint.specs.declared.State.the-variants.{Close, Refresh, Terminate}
+use Rattle.endpoint.specs.Endpoint.{Endpoint}
+use Rattle.endpoint.specs.declared.Reason.{Reason}
+use Rattle.endpoint.specs.declared.Reason.the-variants as R
+use Rattle.endpoint.specs.declared.Answer.{Answer}
+use Rattle.endpoint.specs.declared.Answer.the-variants.{Done, Dropped, Ended}
+use Rattle.endpoint.specs.Answers.{firstOf, isDone, isDropped, leftBy}
+use Rattle.endpoint.specs.Table.{isState}
+use Rattle.endpoint.specs.Due.{isBusy}
+use Rattle.endpoint.specs.Time.{noValue, Tidy, endedOf, afterTick, isExpired}
+use Rattle.endpoint.specs.Updates.{holding, withNotReady}
+use Rattle.transitions.specs.ByCall.{startedOf, restartedOf, requestedOf, refreshSentOf, stoppedOf}
+use Rattle.transitions.specs.ByFrame.{refreshedOf, deferredOf, advancedOf, takenOf, endedBy, confirmedOf, dueAgainOf}
+use Rattle.steps.specs.Frames.{Written, nothing, frame, dueData, requestFields, refreshFields}
+use Rattle.steps.specs.Calls.{Outcome, outcome, sendFaults, sendOf, stopFaults, disconnectOf}
+use Rattle.steps.specs.Deliveries.{paddedOf, refreshFaults, requestFaults, replyFaults, takeRefresh, takeRequest}
+use Rattle.steps.specs.Deliveries.{takeReply, deliverOf}
+use Rattle.steps.specs.Steps.{Act, start, stop, restart, setNotReady, Call, act, send, deliver, show, actOf}
+use Rattle.steps.specs.Steps.{stepOf}
+use Rattle.steps.specs.Values.{withBytes, isShow, accepts, bodyIn, bytesAfter, ValueLeft, ValueLaws}
+use Rattle.steps.proofs.Dispatch.{cond-false}
+use Rattle.steps.proofs.Keeps.{bcase}
+
+-- a refusal accepts nothing
+refuses : (k : Call) (r : Reason) → accepts k (Dropped r) ≡ false
+refuses (act a) r = refl
+refuses (send value) r = refl
+refuses (deliver f body) r = refl
+refuses show r = refl
+
+module _ (e : Endpoint) (b : List ℕ) (h : Tidy (withBytes b e)) where
+  -- what a call comes to on e, and where e holds the bytes b
+  abbrev Left : Call → Outcome → Outcome → Type 0
+  Left k o o′ = ValueLeft e k b o o′
+
+  -- ---- what an end of a call does to the value
+  kept : {k : Call} (a : Answer) (x : Endpoint) (w : Written) → accepts k a ≡ false → x .value .taken ≡ e .value .taken
+      → Left k (outcome a x w) (outcome a (withBytes b x) w)
+  kept {k} a x w n v =
+      let q : b ≡ bytesAfter k (outcome a x w) b = bcase (x .value .taken) (λ p. rw (p, n))
+      (λ p. rw p (h (sym v ∙ p))) in
+      let q′ = ap (λ (l : List ℕ). withBytes l x) q in
+      record { answered = refl; writes = refl; left = q′; taken = λ p n. sym v ∙ p }
+
+  wiped : {k : Call} (a : Answer) (x : Endpoint) (w : Written)
+      → Left k (outcome a (holding noValue x) w) (outcome a (holding noValue x) w)
+  wiped a x w =
+      record { answered = refl; writes = refl; left = refl; taken = λ p n. absurd (true≢false (sym p)) }
+
+  filled : {k : Call} (x : Endpoint) (w : Written) → accepts k Done ≡ true
+      → let y = holding (record { taken = true; bytes = paddedOf (bodyIn k) }) x in
+      Left k (outcome Done y w) (outcome Done y w)
+  filled x w y =
+      record { answered = refl; writes = refl; left = rw y; taken = λ p n. absurd (true≢false (sym y ∙ n)) }
+
+  -- ---- which of its ends a call comes to: by a test, and by its answer
+  either : {k : Call} {x x′ y y′ : Outcome} (c : Bool) → Left k x x′ → Left k y y′ → Left k (cond c x y) (cond c x′ y′)
+  either true p q = p
+  either false p q = q
+
+  by-answer : {k : Call} (a : Answer) (x : Endpoint) {y y′ : Endpoint} {w : Written}
+      → Left k (outcome Done y w) (outcome Done y′ w)
+      → Left k (outcome a (leftBy a e (holding noValue x) y) w)
+      (outcome a (leftBy a (withBytes b e) (holding noValue x) y′) w)
+  by-answer Done x p = p
+  by-answer {k} (Dropped r) x p = kept (Dropped r) e _ (refuses k r) refl
+  by-answer (Ended r) x p = wiped (Ended r) x _
+
+  module _ (t : ℕ) where
+    act-left : (a : Act) → Left (act a) (actOf e t a) (actOf (withBytes b e) t a)
+    act-left start =
+        either (not (e .settings .slave) && isState (e .state) Close) (wiped Done (startedOf e t) nothing)
+        (kept (Dropped R.Turn) e nothing refl refl)
+    act-left stop =
+        let a = firstOf (stopFaults e t) in
+        either (isDropped a) (kept a e nothing refl refl) (wiped Done (stoppedOf e t) (disconnectOf e t))
+    act-left restart =
+        either (isState (e .state) Terminate) (wiped Done (restartedOf e) nothing)
+        (kept (Dropped R.Turn) e nothing refl refl)
+    act-left (setNotReady r) =
+        either (e .settings .slave) (kept Done (withNotReady r e) nothing refl refl)
+        (kept (Dropped R.Turn) e nothing refl refl)
+
+    send-left : (value : List ℕ) → Left (send value) (sendOf e t value) (sendOf (withBytes b e) t value)
+    send-left value =
+        let a = firstOf (sendFaults e t (length value)) in
+        either (isDone a)
+        (either (isState (e .state) Refresh) (kept Done (refreshSentOf e t) (frame (refreshFields e t) value) refl refl)
+        (kept Done (requestedOf e t) (frame (requestFields e t) (dueData e)) refl refl))
+        (by-answer a (endedOf e) (kept Done e nothing refl refl))
+
+    module _ (f : Fields) (body : List ℕ) where
+      refresh-left : is (f .command) K.Refresh ≡ true
+          → Left (deliver f body) (takeRefresh e t (f .timestamp) body)
+          (takeRefresh (withBytes b e) t (f .timestamp) body)
+      refresh-left y =
+          by-answer (firstOf (refreshFaults e t (f .timestamp) (length body))) (endedOf e)
+          (filled (refreshedOf e t (f .timestamp) (paddedOf body)) nothing y)
+
+      module _ (n : is (f .command) K.Refresh ≡ false) where
+        taken-left : (w : Written)
+            → Left (deliver f body) (outcome Done (takenOf e t f) w) (outcome Done (takenOf (withBytes b e) t f) w)
+        taken-left w =
+            bcase (is (f .command) K.Disconnect) (λ d. rw d (wiped Done (endedBy e (f .timestamp)) w))
+            (λ d. rw d (bcase (isBusy e (f .command)) (λ y. rw y (kept Done (deferredOf e t f) w n refl))
+            (λ y. rw y (wiped Done (advancedOf e t f) w))))
+
+        request-left : Left (deliver f body) (takeRequest e t f body) (takeRequest (withBytes b e) t f body)
+        request-left = by-answer (firstOf (requestFaults e f body)) (endedBy e (f .timestamp)) (taken-left _)
+
+        reply-left : Left (deliver f body) (takeReply e t f body) (takeReply (withBytes b e) t f body)
+        reply-left =
+            by-answer (firstOf (replyFaults e f body)) (endedOf e)
+            (bcase (f .busy) (λ y. rw y (kept Done (dueAgainOf e t) nothing n refl))
+            (λ y. rw y (wiped Done (confirmedOf e t) nothing)))
+
+      deliver-left : Left (deliver f body) (deliverOf e t f body) (deliverOf (withBytes b e) t f body)
+      deliver-left =
+          either (Bool·beq (f .application) (e .settings .slave)) (kept (Dropped R.Echo) e nothing refl refl)
+          (bcase (is (f .command) K.Refresh) (λ y. rw y (refresh-left y))
+          (λ n. rw n (either (e .settings .slave) (request-left n) (reply-left n))))
+
+pub values : (e : Endpoint) (t : ℕ) (k : Call) (b : List ℕ) → isShow k ≡ false → Tidy (withBytes b e)
+    → ValueLeft e k b (stepOf e t k) (stepOf (withBytes b e) t k)
+values e t (act a) b s h = act-left e b h t a
+values e t (send value) b s h = send-left e b h t value
+values e t (deliver f body) b s h = deliver-left e b h t f body
+values e t show b s h = absurd (true≢false s)
+
+-- ---- tidy: the bytes left are those of a wiped value where none is taken
+told-tidy : (e : Endpoint) (t : ℕ) (k : Call) → isShow k ≡ false → Tidy e → Tidy (stepOf e t k .endpoint)
+told-tidy e t k s h n =
+    ap (λ (x : Endpoint). x .value .bytes) (values e t k (e .value .bytes) s h .left) ∙ cond-false _ _ _ n
+
+pub step-tidy : (e : Endpoint) (t : ℕ) (k : Call) → Tidy e → Tidy (stepOf e t k .endpoint)
+step-tidy e t (act a) h = told-tidy e t (act a) refl h
+step-tidy e t (send value) h = told-tidy e t (send value) refl h
+step-tidy e t (deliver f body) h = told-tidy e t (deliver f body) refl h
+step-tidy e t show h = h
+
+pub end-tidy : (e : Endpoint) → Tidy (endedOf e)
+end-tidy e n = refl
+
+pub tick-tidy : (e : Endpoint) (t : ℕ) → Tidy e → Tidy (afterTick e t)
+tick-tidy e t h = bcase (isExpired e t) (λ q. rw q (end-tidy e)) (λ q. rw q h)
+
+pub value-laws : ValueLaws
+value-laws = record { values = values; step-tidy = step-tidy; end-tidy = end-tidy; tick-tidy = tick-tidy }

@@ -1,0 +1,63 @@
+-- No call but a show looks at the bytes of the value held: where they are others it comes to the same, but for the
+-- bytes that it leaves.
+use mathlib.Core.Path.{_≡_}
+use mathlib.Core.Bool.{Bool, true, false, _&&_, cond}
+use mathlib.Core.List.{List, []}
+use Prim.Native.Nat.{ℕ}
+use lib.ListN.{replicate}
+use Rattle.frame.specs.declared.Command.the-variants as K
+use Rattle.frame.specs.Control.{is}
+use Rattle.endpoint.specs.Endpoint.{Endpoint}
+use Rattle.endpoint.specs.declared.Answer.{Answer}
+use Rattle.endpoint.specs.Answers.{isDone}
+use Rattle.endpoint.specs.Time.{Tidy, endedOf, afterTick}
+use Rattle.endpoint.specs.Updates.{holding}
+use Rattle.steps.specs.Calls.{Outcome}
+use Rattle.steps.specs.Deliveries.{paddedOf}
+use Rattle.steps.specs.Steps.{Call, act, send, deliver, show, stepOf}
+
+-- an endpoint whose value has other bytes
+abbrev pub withBytes : List ℕ → Endpoint → Endpoint
+withBytes b e = holding (record { taken = e .value .taken; bytes = b }) e
+
+abbrev pub isShow : Call → Bool
+isShow (act a) = false
+isShow (send value) = false
+isShow (deliver f body) = false
+isShow show = true
+
+-- an S-Refresh is accepted
+abbrev pub accepts : Call → Answer → Bool
+accepts (act x) a = false
+accepts (send value) a = false
+accepts (deliver f body) a = isDone a && is (f .command) K.Refresh
+accepts show a = false
+
+-- the body of the frame that is delivered
+abbrev pub bodyIn : Call → List ℕ
+bodyIn (act a) = []
+bodyIn (send value) = []
+bodyIn (deliver f body) = body
+bodyIn show = []
+
+-- the bytes after a call that came to o, where b were held before it: filled by it, left or wiped
+abbrev pub bytesAfter : Call → Outcome → List ℕ → List ℕ
+bytesAfter k o b =
+    cond (o .endpoint .value .taken) (cond (accepts k (o .answer)) (paddedOf (bodyIn k)) b) (replicate 100 0)
+
+-- a call that comes to o on e, and to o′ where e holds the bytes b: o tells what o′ is
+pub record ValueLeft (e : Endpoint) (k : Call) (b : List ℕ) (o o′ : Outcome) : Type 0 where
+  pub answered : o′ .answer ≡ o .answer
+  pub writes : o′ .writes ≡ o .writes
+  pub left : o′ .endpoint ≡ withBytes (bytesAfter k o b) (o .endpoint)
+  -- a value that is taken afterwards was accepted by this call, or taken before
+  pub taken : o .endpoint .value .taken ≡ true → accepts k (o .answer) ≡ false → e .value .taken ≡ true
+
+pub record ValueLaws : Type 0 where
+  -- whatever bytes e has; b are tidy, since a call that keeps the value wipes nothing
+  pub values : (e : Endpoint) (t : ℕ) (k : Call) (b : List ℕ) → isShow k ≡ false → Tidy (withBytes b e)
+      → ValueLeft e k b (stepOf e t k) (stepOf (withBytes b e) t k)
+  -- a call leaves a tidy endpoint tidy, and so does the clock step; one that ends is tidy
+  pub step-tidy : (e : Endpoint) (t : ℕ) (k : Call) → Tidy e → Tidy (stepOf e t k .endpoint)
+  pub end-tidy : (e : Endpoint) → Tidy (endedOf e)
+  pub tick-tidy : (e : Endpoint) (t : ℕ) → Tidy e → Tidy (afterTick e t)
