@@ -58,7 +58,7 @@ extern "C" {
  * dynamic linker uses where it binds memcpy at its first call. Measured, not proved: the host
  * tests make every call of their lists on a painted stack, and hold what was overwritten to this.
  */
-#define FOLDERPINK_STACK 3072
+#define FOLDERPINK_STACK 2048
 
 /*
  * The answers. Where several apply, the first in this order is given: 1; 2 for too few records;

@@ -139,7 +139,8 @@ fn opens(p: Picked) -> bool
 {
     let call = p.call;
     let g = call.gateway;
-    is_reading(g, call.clock) & !(p.room < g.count)
+    let shorter = p.room < g.count;
+    is_reading(g, call.clock) & !shorter
 }
 
 // Refused before the connection's own step.

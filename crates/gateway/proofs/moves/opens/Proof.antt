@@ -4,7 +4,7 @@ use Rattle.gateway.proofs.moves.opens.Statement.{statement}
 use Rattle.gateway.proofs.moves.opens.Tie as tie
 
 returns : tie.Need-returns
-returns c = rw (c .before .before .is-reading .ensures)
+returns c = rw (c .is-reading .ensures)
 
 pub opens-spec : {M : Type 1} → statement M
 opens-spec =
