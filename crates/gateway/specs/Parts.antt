@@ -18,7 +18,7 @@ use Rattle.endpoint.specs.declared.Reason.the-variants as R
 use Rattle.endpoint.specs.declared.Answer.{Answer}
 use Rattle.endpoint.specs.declared.Answer.the-variants.{Done, Dropped}
 use Rattle.endpoint.specs.Answers.{isDone, isEnded}
-use Rattle.endpoint.specs.Time.{isExpired, endedOf, afterTick}
+use Rattle.endpoint.specs.Time.{isExpired, afterTick}
 use Rattle.steps.specs.declared.Stepped.{Stepped}
 use Rattle.steps.specs.Frames.{Written, nothing, bytesOf}
 use Rattle.steps.specs.Calls.{Outcome, outcome, isFailSafe, shownOf}
@@ -28,7 +28,7 @@ use Rattle.steps.specs.Values.{withBytes}
 use Rattle.settings.specs.Lists.{countOf, isList}
 use Rattle.records.specs.declared.Stored.{Stored}
 use Rattle.records.specs.declared.Record.{Record}
-use Rattle.records.specs.Records.{bareOf, storedOf, recordWith}
+use Rattle.records.specs.Records.{bareOf, storedOf, recordWith, endedStored}
 use Rattle.lent.specs.First.{onFirst, seekIn}
 use Rattle.gateway.specs.declared.Gateway.{Gateway}
 use Rattle.gateway.specs.declared.Call.{Call}
@@ -81,9 +81,6 @@ metOf rs k =
 -- the clock step on the first `steps` records, by their stored part
 abbrev pub isOver : Stored → ℕ → Bool
 isOver s t = isExpired (bareOf s) t
-
-abbrev pub endedStored : Stored → Stored
-endedStored s = storedOf (endedOf (bareOf s))
 
 abbrev pub steppedRecord : ℕ → Record → Record
 steppedRecord t r =

@@ -6,11 +6,11 @@ use lib.Dec.{eqb, ltb, leb}
 use lib.ListN.{length, getD, set}
 use Rattle.endpoint.specs.declared.Settings.{Settings}
 use Rattle.endpoint.specs.Endpoint.{Endpoint}
-use Rattle.endpoint.specs.Time.{lastReading, isExpired, endedOf}
+use Rattle.endpoint.specs.Time.{lastReading, isExpired}
 use Rattle.transitions.specs.ByCall.{freshOf}
 use Rattle.settings.specs.Words.{settingsOf}
 use Rattle.records.specs.declared.Record.{Record}
-use Rattle.records.specs.Records.{endpointOf, recordOf}
+use Rattle.records.specs.Records.{endpointOf, recordOf, endedRecord}
 use Rattle.lent.specs.First.{onFirst, seekIn}
 use Rattle.gateway.specs.declared.Gateway.{Gateway}
 
@@ -60,7 +60,7 @@ atClock t g = record { last = t; count = g .count }
 
 -- the clock step of one record
 abbrev pub ticked : ℕ → Record → Record
-ticked t r = cond (isExpired (endpointOf r) t) (recordOf (endedOf (endpointOf r))) r
+ticked t r = cond (isExpired (endpointOf r) t) (endedRecord r) r
 
 -- the reading is the last one, and every connection of the table takes the clock step; records past it stay
 unfoldable pub clockStep : ℕ → Lent → Lent

@@ -4,18 +4,16 @@ ghost use mathlib.Core.Path.{_≡_};
 ghost use lib.Dec.{eqb};
 ghost use Rattle.endpoint.specs.Endpoint.{noBytes};
 ghost use Rattle.gateway.specs.Tables.{blankRecord};
-ghost use Rattle.gateway.specs.Parts.{picked, pickedOf, heldAt, metOf, isOver, endedStored, settled, valueAt};
+ghost use Rattle.gateway.specs.Parts.{picked, pickedOf, heldAt, metOf, settled, valueAt};
 use super::Call;
 use super::Called;
 use super::Moved;
 use super::Picked;
 use super::Sought;
-use endpoint::time::ended;
 use records::Record;
 use records::Stored;
-use records::core_of;
+use records::ended;
 use records::is_over;
-use records::stored_of;
 
 // What stands past the slice.
 pub(crate) fn blank() -> Stored
@@ -156,12 +154,6 @@ pub(crate) fn seek(rs: &mut [Record], k: Sought) -> Picked
 
 // ---- what is stored
 
-fn end(s: Stored) -> Stored
-    ensures { λ r. ⌜ r ≡ endedStored s ⌝ }
-{
-    stored_of(ended(core_of(s)))
-}
-
 fn wiped() -> [u8; 100]
     ensures { λ r. ⌜ r ≡ noBytes ⌝ }
 {
@@ -175,7 +167,7 @@ pub(crate) fn settle(rs: &mut [Record], m: Moved) -> Called
     let mut i = 0;
     while (i < m.steps) & (i < rs.len()) {
         if is_over(rs[i].stored, m.clock) {
-            rs[i].stored = end(rs[i].stored);
+            rs[i].stored = ended(rs[i].stored);
             rs[i].value = wiped();
         }
         i += 1;

@@ -62,4 +62,4 @@ untaken true bytes h = absurd (true≢false h)
 untaken false bytes h = refl
 
 pub records : RecordTheorem
-records = record { back = back; tidy = λ r. untaken (isSet (r .stored .taken)) (r .value) }
+records = record { back = back; tidy = λ r. untaken (isSet (r .stored .taken)) (r .value); ended = λ r. refl }

@@ -14,7 +14,7 @@ use Rattle.endpoint.specs.declared.Pending.{Pending}
 use Rattle.endpoint.specs.declared.Pending.the-variants.{Nothing, Asked}
 use Rattle.endpoint.specs.Endpoint.{Endpoint, noBytes}
 use Rattle.endpoint.specs.Table.{rowOf}
-use Rattle.endpoint.specs.Time.{Tidy}
+use Rattle.endpoint.specs.Time.{endedOf, Tidy}
 use Rattle.records.specs.declared.Stored.{Stored}
 use Rattle.records.specs.declared.Record.{Record}
 
@@ -132,9 +132,40 @@ recordWith s bytes = record { stored = s; value = bytes }
 abbrev pub recordOf : Endpoint → Record
 recordOf e = recordWith (storedOf e) (e .value .bytes)
 
--- ---- the two are inverse
+-- ---- an end, in numbers
+-- Terminate, and no value taken; all else as it stands
+abbrev pub endedStored : Stored → Stored
+endedStored s = record {
+  since = s .since;
+  sent = s .sent;
+  accepted = s .accepted;
+  asked = s .asked;
+  measured = s .measured;
+  offset = s .offset;
+  connection = s .connection;
+  interval = s .interval;
+  roundtrip = s .roundtrip;
+  age = s .age;
+  station = s .station;
+  state = rowOf Terminate;
+  slave = s .slave;
+  masterwords = s .masterwords;
+  slavewords = s .slavewords;
+  hassent = s .hassent;
+  hasaccepted = s .hasaccepted;
+  hasasked = s .hasasked;
+  requests = s .requests;
+  notready = s .notready;
+  taken = 0;
+}
+
+abbrev pub endedRecord : Record → Record
+endedRecord r = recordWith (endedStored (r .stored)) noBytes
+
+-- ---- the two are inverse, and an end in numbers is the endpoint's
 pub record RecordTheorem : Type 0 where
   -- the record of an endpoint is that endpoint's
   pub back : (e : Endpoint) → Tidy e → endpointOf (recordOf e) ≡ e
   -- and that of any record is such a one
   pub tidy : (r : Record) → Tidy (endpointOf r)
+  pub ended : (r : Record) → endpointOf (endedRecord r) ≡ endedOf (endpointOf r)

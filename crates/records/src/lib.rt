@@ -5,7 +5,7 @@ ghost use Rattle.endpoint.specs.Endpoint.{bare, coreOf};
 ghost use Rattle.endpoint.specs.Table.{rowOf};
 ghost use Rattle.endpoint.specs.Time.{isExpired};
 ghost use Rattle.records.specs.Records.{isSet, flagOf, stateFrom, timestampFrom, isAt, timeIn, pendingFrom, isAsked};
-ghost use Rattle.records.specs.Records.{askedIn, bareOf, storedOf};
+ghost use Rattle.records.specs.Records.{askedIn, bareOf, storedOf, endedStored};
 use endpoint::Core;
 use endpoint::Pending;
 use endpoint::Settings;
@@ -219,6 +219,16 @@ pub fn stored_of(e: Core) -> Stored
         notready: flag_of(e.station.notready),
         taken: flag_of(e.taken),
     }
+}
+
+// What an end leaves, by its numbers.
+pub fn ended(s: Stored) -> Stored
+    ensures { λ r. ⌜ r ≡ endedStored s ⌝ }
+{
+    let mut next = s;
+    next.state = 7;
+    next.taken = 0;
+    next
 }
 
 // Whether a clock reading ends the connection, by its numbers: every call asks it of every record.

@@ -14,9 +14,8 @@ use Rattle.endpoint.specs.declared.Settings.{Settings}
 use Rattle.endpoint.specs.Endpoint.{Endpoint}
 use Rattle.endpoint.specs.Time.{Tidy, isExpired, endedOf, afterTick}
 use Rattle.steps.proofs.Keeps.{bcase, kept}
-use Rattle.steps.proofs.Values.{end-tidy}
 use Rattle.records.specs.declared.Record.{Record}
-use Rattle.records.specs.Records.{endpointOf, recordOf}
+use Rattle.records.specs.Records.{endpointOf, recordOf, endedRecord}
 use Rattle.records.proofs.Records.{flag-back, records}
 use Rattle.lent.specs.First.{onFirst, seekIn, getD-below}
 use Rattle.gateway.specs.Tables.{Lent, blankRecord, recordAt, endpointAt, isShorter, hasConnection, placeOf, ticked}
@@ -73,9 +72,8 @@ tick-keeps e t = go (isExpired e t)
 ticked-record : (r : Record) (t : ℕ) → endpointOf (ticked t r) ≡ afterTick (endpointOf r) t
 ticked-record r t = go (isExpired (endpointOf r) t)
   where
-    go : (b : Bool) → endpointOf (cond b (recordOf (endedOf (endpointOf r))) r)
-        ≡ cond b (endedOf (endpointOf r)) (endpointOf r)
-    go true = records .back (endedOf (endpointOf r)) (end-tidy (endpointOf r))
+    go : (b : Bool) → endpointOf (cond b (endedRecord r) r) ≡ cond b (endedOf (endpointOf r)) (endpointOf r)
+    go true = records .ended r
     go false = refl
 
 sets-tick : (n : ℕ) (rs : List Record) (t : ℕ) → sets (onFirst (ticked t) n rs) ≡ sets rs
