@@ -20,6 +20,11 @@ pub mod CallOut
 pub mod CallBoth
 pub mod CallShow
 pub mod CallDeliver
+-- A call whose input is lent too: a field of the answer is kept in it.
+pub mod Keep
+pub mod KeepOut
+pub mod KeepBoth
+pub mod KeepList
 -- The front of a local array, lent for a call by a function that takes and returns the array by value.
 pub mod Front
 pub mod ByValue
