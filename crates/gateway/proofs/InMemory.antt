@@ -6,13 +6,8 @@ use mathlib.Core.List.{List, [], _∷_}
 use mathlib.Core.Option.{Option, some, none}
 use mir.Syntax.{Ty}
 use prog.Memory.{size, align, fieldOf}
-use Rattle.lent.proofs.Data.{Data, of-struct}
-use Rattle.gateway.proofs.Gateway as G
-use Rattle.gateway.proofs.Gateway.Laws as G′
-use Rattle.gateway.proofs.Types.{rec, stored, call, called}
-
-abbrev gateway : Data
-gateway = of-struct G.the-type G′.the-laws
+use Rattle.lent.proofs.Data.{Data}
+use Rattle.gateway.proofs.Types.{rec, stored, gateway, call, told}
 
 abbrev startOf : Option (Ty × ℕ) → ℕ
 startOf none = 0
@@ -40,5 +35,5 @@ gateway-lies = (refl, refl, refl)
 pub call-lies : Lies call 40 8 4 (0 ∷ 16 ∷ 24 ∷ 32 ∷ [])
 call-lies = (refl, refl, refl)
 
-pub called-lies : Lies called 40 8 6 (0 ∷ 16 ∷ 24 ∷ 32 ∷ 33 ∷ 34 ∷ [])
-called-lies = (refl, refl, refl)
+pub told-lies : Lies told 24 8 5 (0 ∷ 8 ∷ 16 ∷ 17 ∷ 18 ∷ [])
+told-lies = (refl, refl, refl)

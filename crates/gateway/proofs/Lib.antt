@@ -6,4 +6,5 @@ pub mod BodyPart
 pub mod OwnStep
 pub mod Lands
 pub mod Follows
+pub mod Kept
 pub mod Numbers

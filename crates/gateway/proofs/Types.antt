@@ -1,18 +1,23 @@
--- The types of the calls, as the laws of `lent` take them, and the two fields of a record.
+-- The types of the calls, as the laws of `lent` take them, the two fields of a record, and the gateway in a call.
 use mathlib.Core.Path.{refl}
 use mir.Syntax.{w8, w64}
 use types.Part.{whole, sub}
 use denote.Struct.Laws as LL
 use Rattle.lent.proofs.Data.{Data, Plain, of-struct, struct-plain, of-uint, uint-plain, of-array, array-plain}
 use Rattle.lent.proofs.Field.{Inside, array-in}
-use Rattle.lent.proofs.Plain.{Plains}
+use Rattle.lent.proofs.Plain.{Plains, Keeps}
 use Rattle.lent.proofs.Settle as settle
 use Rattle.lent.proofs.Load as load
+use Rattle.gateway.specs.declared.Gateway.{Gateway}
+use Rattle.gateway.specs.declared.Called.{Called}
+use Rattle.gateway.specs.Exports.{withGateway}
 use Rattle.gateway.specs.Parts.{withStored, withValue}
 use Rattle.records.proofs.Stored as F
 use Rattle.records.proofs.Stored.Laws as F′
 use Rattle.records.proofs.Record as R
 use Rattle.records.proofs.Record.Laws as R′
+use Rattle.gateway.proofs.Gateway as G
+use Rattle.gateway.proofs.Gateway.Laws as G′
 use Rattle.gateway.proofs.Call as N
 use Rattle.gateway.proofs.Call.Laws as N′
 use Rattle.gateway.proofs.Sought as C
@@ -25,6 +30,8 @@ use Rattle.gateway.proofs.Plan as L
 use Rattle.gateway.proofs.Plan.Laws as L′
 use Rattle.gateway.proofs.Called as O
 use Rattle.gateway.proofs.Called.Laws as O′
+use Rattle.gateway.proofs.Told as T
+use Rattle.gateway.proofs.Told.Laws as T′
 
 abbrev pub rec : Data
 rec = of-struct R.the-type R′.the-laws
@@ -154,4 +161,57 @@ load-kinds = record {
   told-at = refl;
   count-at = refl;
   told-is = λ s v is. LL.owed L.the-type L′.the-laws s _ is .0;
+}
+
+-- what C is told, and the gateway in the lent call and in the answer
+abbrev pub gateway : Data
+gateway = of-struct G.the-type G′.the-laws
+
+abbrev pub told : Data
+told = of-struct T.the-type T′.the-laws
+
+abbrev pub in-call : Inside call gateway
+in-call = record {
+  key = 0;
+  off = 0;
+  get = λ c. c .gateway;
+  put = withGateway;
+  lies = refl;
+  part = λ t q b o c. sub t 0 refl (whole t);
+  after-is = λ c g. refl;
+  has = λ c is. LL.owed N.the-type N′.the-laws c _ is .0;
+  puts = λ c g is is-g. LL.owes N.the-type N′.the-laws (withGateway c g)
+      (is-g, LL.owed N.the-type N′.the-laws c _ is .1);
+}
+
+abbrev answering : Called → Gateway → Called
+answering t g = record {
+  gateway = g;
+  count = t .count;
+  entry = t .entry;
+  named = t .named;
+  number = t .number;
+  failsafe = t .failsafe;
+}
+
+abbrev pub in-called : Inside called gateway
+in-called = record {
+  key = 0;
+  off = 0;
+  get = λ t. t .gateway;
+  put = answering;
+  lies = refl;
+  part = λ k q b o t. sub k 0 refl (whole k);
+  after-is = λ t g. refl;
+  has = λ t is. LL.owed O.the-type O′.the-laws t _ is .0;
+  puts = λ t g is is-g. LL.owes O.the-type O′.the-laws (answering t g)
+      (is-g, LL.owed O.the-type O′.the-laws t _ is .1);
+}
+
+abbrev pub keeps : Keeps call gateway called told
+keeps = record {
+  n-plain = call-plain;
+  g-plain = struct-plain G.the-type G′.the-laws G′.the-plain;
+  t-plain = plains .o-plain;
+  o-plain = struct-plain T.the-type T′.the-laws T′.the-plain;
 }

@@ -2,5 +2,6 @@
 pub mod Tables
 pub mod Loading
 pub mod Calls
+pub mod Exports
 pub mod Numbers
 pub mod Parts

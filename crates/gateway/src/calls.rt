@@ -100,8 +100,7 @@ fn do_show(p: Picked, v: [u8; 100], out: &mut [u8]) -> Moved
 // ---- the calls
 
 // A master's, in Close.
-#[no_mangle]
-pub extern "C" fn folderpink_start(rs: &mut [Record], c: Call) -> Called
+pub fn start(rs: &mut [Record], c: Call) -> Called
     ensures { λ r. ⌜ CallSays (startIn (lent (c .gateway) (now (rs .entry))) (c .clock) (c .entry)) (now (rs .exit)) r ⌝ }
 {
     let p = pick(rs, c);
@@ -110,8 +109,7 @@ pub extern "C" fn folderpink_start(rs: &mut [Record], c: Call) -> Called
 }
 
 // From Terminate to Close; timestamps are remembered.
-#[no_mangle]
-pub extern "C" fn folderpink_restart(rs: &mut [Record], c: Call) -> Called
+pub fn restart(rs: &mut [Record], c: Call) -> Called
     ensures { λ r. ⌜ CallSays (restartIn (lent (c .gateway) (now (rs .entry))) (c .clock) (c .entry)) (now (rs .exit)) r ⌝ }
 {
     let p = pick(rs, c);
@@ -120,8 +118,7 @@ pub extern "C" fn folderpink_restart(rs: &mut [Record], c: Call) -> Called
 }
 
 // A station's user sets 'not ready', or clears it: a slave's, in any state.
-#[no_mangle]
-pub extern "C" fn folderpink_set_not_ready(rs: &mut [Record], c: Call) -> Called
+pub fn set_not_ready(rs: &mut [Record], c: Call) -> Called
     ensures { λ r. ⌜ CallSays (setNotReadyIn (lent (c .gateway) (now (rs .entry))) (c .clock) (c .entry) (isSet (c .notready)))
         (now (rs .exit)) r ⌝ }
 {
@@ -131,8 +128,7 @@ pub extern "C" fn folderpink_set_not_ready(rs: &mut [Record], c: Call) -> Called
 }
 
 // Terminate; a master's writes S-Disconnect.
-#[no_mangle]
-pub extern "C" fn folderpink_stop(rs: &mut [Record], c: Call, out: &mut [u8]) -> Called
+pub fn stop(rs: &mut [Record], c: Call, out: &mut [u8]) -> Called
     ensures { λ r. ⌜ OutputSays (stopIn (lent (c .gateway) (now (rs .entry))) (c .clock) (length (now (out .entry))) (c .entry))
         (now (rs .exit)) (now (out .entry)) (now (out .exit)) r ⌝ }
 {
@@ -142,13 +138,7 @@ pub extern "C" fn folderpink_stop(rs: &mut [Record], c: Call, out: &mut [u8]) ->
 }
 
 // The next setup request, whatever value is lent; in Refresh the value.
-#[no_mangle]
-pub extern "C" fn folderpink_send(
-    rs: &mut [Record],
-    c: Call,
-    value: &[u8],
-    out: &mut [u8],
-) -> Called
+pub fn send(rs: &mut [Record], c: Call, value: &[u8], out: &mut [u8]) -> Called
     ensures { λ r. ⌜ OutputSays (sendIn (lent (c .gateway) (now (rs .entry))) (c .clock) (length (now (out .entry))) (c .entry)
         (now (value .entry))) (now (rs .exit)) (now (out .entry)) (now (out .exit)) r ⌝ }
 {
@@ -158,8 +148,7 @@ pub extern "C" fn folderpink_send(
 }
 
 // The last value accepted in this Refresh, or fail-safe: as the clock step left the connection.
-#[no_mangle]
-pub extern "C" fn folderpink_show(rs: &mut [Record], c: Call, out: &mut [u8]) -> Called
+pub fn show(rs: &mut [Record], c: Call, out: &mut [u8]) -> Called
     ensures { λ r. ⌜ OutputSays (showIn (lent (c .gateway) (now (rs .entry))) (c .clock) (length (now (out .entry))) (c .entry))
         (now (rs .exit)) (now (out .entry)) (now (out .exit)) r ⌝ }
 {

@@ -98,13 +98,7 @@ fn body_of(m: Moved, bytes: &[u8]) -> [u8; 100]
     padded(&bytes[start..end])
 }
 
-#[no_mangle]
-pub extern "C" fn folderpink_deliver(
-    rs: &mut [Record],
-    c: Call,
-    bytes: &[u8],
-    out: &mut [u8],
-) -> Called
+pub fn deliver(rs: &mut [Record], c: Call, bytes: &[u8], out: &mut [u8]) -> Called
     ensures { λ r. ⌜ OutputSays (deliverIn (lent (c .gateway) (now (rs .entry))) (c .clock) (length (now (out .entry)))
         (now (bytes .entry))) (now (rs .exit)) (now (out .entry)) (now (out .exit)) r ⌝ }
 {

@@ -1,8 +1,9 @@
-// A gateway: the calls on a table of 1 to 64 connections whose records the caller lends. The calls are this crate's
-// exported functions, for Rattle and C alike (include/folderpink.h); all else is by value.
+// A gateway: the calls on a table of 1 to 64 connections whose records the caller lends: calls, deliver and load for
+// Rattle, and exports for C (include/folderpink.h). All else is by value.
 
 pub mod calls;
 pub mod deliver;
+pub mod exports;
 pub mod load;
 mod moves;
 mod slice;
@@ -17,7 +18,7 @@ pub struct Gateway {
     pub count: usize,
 }
 
-// What a call is asked with; notready is set_not_ready's alone.
+// What a call is asked with; notready is set_not_ready's alone. C lends it, and each call keeps the gateway in it.
 #[repr(C)]
 pub struct Call {
     pub gateway: Gateway,
@@ -28,9 +29,18 @@ pub struct Call {
 
 // What a call answers: the gateway for the next call; the bytes written to the lent output; the entry, where one is
 // named; document 01's number; the mark 'fail-safe' of a show.
-#[repr(C)]
 pub struct Called {
     pub gateway: Gateway,
+    pub count: usize,
+    pub entry: usize,
+    pub named: u8,
+    pub number: u8,
+    pub failsafe: u8,
+}
+
+// What C is told: all of Called but the gateway.
+#[repr(C)]
+pub struct Told {
     pub count: usize,
     pub entry: usize,
     pub named: u8,

@@ -60,8 +60,7 @@ fn make(list: &[u32], i: usize) -> Record
 }
 
 // Done with the list's connections in the first records; or 18, or 2 for a slice that is too short, and none.
-#[no_mangle]
-pub extern "C" fn folderpink_load(rs: &mut [Record], list: &[u32]) -> Called
+pub fn load(rs: &mut [Record], list: &[u32]) -> Called
     ensures { λ r. ⌜ LoadSays (now (list .entry)) (now (rs .entry)) (now (rs .exit)) r ⌝ }
 {
     let n = rs.len();

@@ -1,4 +1,4 @@
--- `gateway::load::folderpink_load` meets its contract: Load of `lent`.
+-- `gateway::load::load` meets its contract: Load of `lent`.
 use mathlib.Core.Path.{_≡_, refl, sym, ap, subst, _∙_}
 use mathlib.Core.Bool.{Bool, true, false, cond}
 use mathlib.Core.List.{List}
@@ -31,10 +31,10 @@ use Rattle.gateway.proofs.load.make as make
 use Rattle.gateway.proofs.load.make.Symbol as make-def
 use Rattle.gateway.proofs.load.make.Symbol.{name as #make}
 use Rattle.gateway.proofs.load.make.Met as make-thm
-use Rattle.gateway.proofs.load.folderpink_load.Key.{name as #folderpink-load}
-use Rattle.gateway.proofs.load.folderpink_load as f
-use Rattle.gateway.proofs.load.folderpink_load.Statement as stated
-use Rattle.gateway.proofs.load.folderpink_load.Code as code
+use Rattle.gateway.proofs.load.load.Key.{name as #load}
+use Rattle.gateway.proofs.load.load as f
+use Rattle.gateway.proofs.load.load.Statement as stated
+use Rattle.gateway.proofs.load.load.Code as code
 
 abbrev made : List ℕ → ℕ → Record
 made ws i = freshAt ws (i % 256)
@@ -65,11 +65,11 @@ follows ys ws s e =
     subst (λ (p : Plan). LoadSays ws ys (filled (made ws) (p .count) ys) (p .told)) (sym e)
     (by ws ys (isList ws) (ltb (length ys) (countOf ws)) refl refl)
 
-pub folderpink-load-spec : {M : Type 1} → stated.statement M
+pub load-spec : {M : Type 1} → stated.statement M
 unfolding code.routine tablesOf
-folderpink-load-spec 𝓤 H 𝓜 𝓖 𝓡 =
+load-spec 𝓤 H 𝓜 𝓖 𝓡 =
     entered 𝓤 H (tripleOf 𝓤 H (𝓖 .A) f.signature (f.spec 𝓤 H (𝓖 .A) (𝓜 .mem) (𝓡 .run)))
-    (tables 𝓤 H 𝓜 𝓡 code.env .C) (tables 𝓤 H 𝓜 𝓡 code.env .Λ) #folderpink-load code.function (code.unfolded 𝓤 H 𝓜 𝓡)
+    (tables 𝓤 H 𝓜 𝓡 code.env .C) (tables 𝓤 H 𝓜 𝓡 code.env .Λ) #load code.function (code.unfolded 𝓤 H 𝓜 𝓡)
     (load-meets rec called plan u32 load-kinds #planned #make made PlanSaid Then follows
     𝓤 H (𝓖 .A) (givenOf 𝓤 H 𝓜 𝓖) (tablesOf 𝓤 H 𝓜 (tables 𝓤 H 𝓜 𝓡 code.env))
     (cited 𝓤 H (tripleOf 𝓤 H (𝓖 .A) planned.signature (planned.spec 𝓤 H (𝓖 .A) (𝓜 .mem) (𝓡 .run))) 𝓜 𝓡 code.env #planned

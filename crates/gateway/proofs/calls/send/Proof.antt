@@ -1,4 +1,4 @@
--- `gateway::calls::folderpink_send` meets its contract: CallBoth of `lent`.
+-- `gateway::calls::send` meets its contract: CallBoth of `lent`.
 use mathlib.Core.Path.{refl}
 use mathlib.Core.List.{List}
 use Prim.Native.Nat.{ℕ}
@@ -30,10 +30,10 @@ use Rattle.gateway.proofs.slice.settle as settle
 use Rattle.gateway.proofs.slice.settle.Symbol as settle-def
 use Rattle.gateway.proofs.slice.settle.Symbol.{name as #settle}
 use Rattle.gateway.proofs.slice.settle.Met as settle-thm
-use Rattle.gateway.proofs.calls.folderpink_send.Key.{name as #folderpink-send}
-use Rattle.gateway.proofs.calls.folderpink_send as f
-use Rattle.gateway.proofs.calls.folderpink_send.Statement as stated
-use Rattle.gateway.proofs.calls.folderpink_send.Code as code
+use Rattle.gateway.proofs.calls.send.Key.{name as #send}
+use Rattle.gateway.proofs.calls.send as f
+use Rattle.gateway.proofs.calls.send.Statement as stated
+use Rattle.gateway.proofs.calls.send.Code as code
 
 abbrev ActSaid : Picked → List ℕ → List ℕ → Moved → List ℕ → Type 0
 ActSaid p value out m out′ = OutputSaid (S.send value) refl (λ a. refl) p out m out′
@@ -47,11 +47,11 @@ follows : (ys : List Record) (c : Call) (value out : List ℕ) (p : Picked) (us 
     → PickSaid ys c p us → ActSaid p value out m out′ → SettleSaid us m r zs → Then ys c value out r zs out′
 follows ys c value out = output-follows (S.send value) refl (λ a. refl) ys c out
 
-pub folderpink-send-spec : {M : Type 1} → stated.statement M
+pub send-spec : {M : Type 1} → stated.statement M
 unfolding code.routine tablesOf
-folderpink-send-spec 𝓤 H 𝓜 𝓖 𝓡 =
+send-spec 𝓤 H 𝓜 𝓖 𝓡 =
     entered 𝓤 H (tripleOf 𝓤 H (𝓖 .A) f.signature (f.spec 𝓤 H (𝓖 .A) (𝓜 .mem) (𝓡 .run)))
-    (tables 𝓤 H 𝓜 𝓡 code.env .C) (tables 𝓤 H 𝓜 𝓡 code.env .Λ) #folderpink-send code.function (code.unfolded 𝓤 H 𝓜 𝓡)
+    (tables 𝓤 H 𝓜 𝓡 code.env .C) (tables 𝓤 H 𝓜 𝓡 code.env .Λ) #send code.function (code.unfolded 𝓤 H 𝓜 𝓡)
     (call-meets rec call pick-type move called plains #pick #do-send #settle PickSaid ActSaid SettleSaid Then follows
     𝓤 H (𝓖 .A) (givenOf 𝓤 H 𝓜 𝓖) (tablesOf 𝓤 H 𝓜 (tables 𝓤 H 𝓜 𝓡 code.env))
     (cited 𝓤 H (tripleOf 𝓤 H (𝓖 .A) pick.signature (pick.spec 𝓤 H (𝓖 .A) (𝓜 .mem) (𝓡 .run))) 𝓜 𝓡 code.env #pick

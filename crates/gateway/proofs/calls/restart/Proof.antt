@@ -1,18 +1,18 @@
--- `gateway::calls::folderpink_stop` meets its contract: CallOut of `lent`.
+-- `gateway::calls::restart` meets its contract: Call of `lent`.
 use mathlib.Core.Path.{refl}
 use mathlib.Core.List.{List}
 use Prim.Native.Nat.{ℕ}
-use lib.ListN.{length}
 use Rattle.steps.specs.Steps as S
 use Rattle.records.specs.declared.Record.{Record}
 use Rattle.gateway.specs.declared.Call.{Call}
 use Rattle.gateway.specs.declared.Called.{Called}
+use Rattle.steps.proofs.Quiet.{restart-quiet}
 use Rattle.gateway.specs.Tables.{lent}
-use Rattle.gateway.specs.Calls.{stopIn, OutputSays}
+use Rattle.gateway.specs.Calls.{restartIn, CallSays}
 use Rattle.gateway.proofs.Types.{rec, call, pick as pick-type, move, called, plains}
 use Rattle.gateway.proofs.Parts.{PickSaid, SettleSaid}
-use Rattle.gateway.proofs.Follows.{OutputSaid, output-follows}
-use Rattle.lent.proofs.CallOut.{call-meets}
+use Rattle.gateway.proofs.Follows.{PlainSaid, plain-follows}
+use Rattle.lent.proofs.Call.{call-meets}
 use contract.Running.{givenOf, tables, tablesOf}
 use denote.Triple.Spec.{tripleOf}
 use denote.Triple.Table.{entered, cited}
@@ -20,33 +20,37 @@ use Rattle.gateway.proofs.slice.pick as pick
 use Rattle.gateway.proofs.slice.pick.Symbol as pick-def
 use Rattle.gateway.proofs.slice.pick.Symbol.{name as #pick}
 use Rattle.gateway.proofs.slice.pick.Met as pick-thm
-use Rattle.gateway.proofs.calls.do_stop as do-stop
-use Rattle.gateway.proofs.calls.do_stop.Symbol as do-stop-def
-use Rattle.gateway.proofs.calls.do_stop.Symbol.{name as #do-stop}
-use Rattle.gateway.proofs.calls.do_stop.Met as do-stop-thm
+use Rattle.gateway.proofs.calls.do_restart as do-restart
+use Rattle.gateway.proofs.calls.do_restart.Symbol as do-restart-def
+use Rattle.gateway.proofs.calls.do_restart.Symbol.{name as #do-restart}
+use Rattle.gateway.proofs.calls.do_restart.Met as do-restart-thm
 use Rattle.gateway.proofs.slice.settle as settle
 use Rattle.gateway.proofs.slice.settle.Symbol as settle-def
 use Rattle.gateway.proofs.slice.settle.Symbol.{name as #settle}
 use Rattle.gateway.proofs.slice.settle.Met as settle-thm
-use Rattle.gateway.proofs.calls.folderpink_stop.Key.{name as #folderpink-stop}
-use Rattle.gateway.proofs.calls.folderpink_stop as f
-use Rattle.gateway.proofs.calls.folderpink_stop.Statement as stated
-use Rattle.gateway.proofs.calls.folderpink_stop.Code as code
+use Rattle.gateway.proofs.calls.restart.Key.{name as #restart}
+use Rattle.gateway.proofs.calls.restart as f
+use Rattle.gateway.proofs.calls.restart.Statement as stated
+use Rattle.gateway.proofs.calls.restart.Code as code
 
-abbrev Then : List Record → Call → List ℕ → Called → List Record → List ℕ → Type 0
-Then ys c out r zs out′ = OutputSays (stopIn (lent (c .gateway) ys) (c .clock) (length out) (c .entry)) zs out out′ r
+abbrev asks : Call → S.Call
+asks c = S.act S.restart
 
-pub folderpink-stop-spec : {M : Type 1} → stated.statement M
+abbrev Then : List Record → Call → Called → List Record → Type 0
+Then ys c r zs = CallSays (restartIn (lent (c .gateway) ys) (c .clock) (c .entry)) zs r
+
+pub restart-spec : {M : Type 1} → stated.statement M
 unfolding code.routine tablesOf
-folderpink-stop-spec 𝓤 H 𝓜 𝓖 𝓡 =
+restart-spec 𝓤 H 𝓜 𝓖 𝓡 =
     entered 𝓤 H (tripleOf 𝓤 H (𝓖 .A) f.signature (f.spec 𝓤 H (𝓖 .A) (𝓜 .mem) (𝓡 .run)))
-    (tables 𝓤 H 𝓜 𝓡 code.env .C) (tables 𝓤 H 𝓜 𝓡 code.env .Λ) #folderpink-stop code.function (code.unfolded 𝓤 H 𝓜 𝓡)
-    (call-meets rec call pick-type move called plains #pick #do-stop #settle PickSaid
-    (OutputSaid (S.act S.stop) refl (λ a. refl)) SettleSaid Then (output-follows (S.act S.stop) refl (λ a. refl))
+    (tables 𝓤 H 𝓜 𝓡 code.env .C) (tables 𝓤 H 𝓜 𝓡 code.env .Λ) #restart code.function (code.unfolded 𝓤 H 𝓜 𝓡)
+    (call-meets rec call pick-type move called plains #pick #do-restart #settle PickSaid
+    (PlainSaid asks (λ x. refl) (λ x a. refl) (λ e u x. restart-quiet e)) SettleSaid Then
+    (plain-follows asks (λ x. refl) (λ x a. refl) (λ e u x. restart-quiet e))
     𝓤 H (𝓖 .A) (givenOf 𝓤 H 𝓜 𝓖) (tablesOf 𝓤 H 𝓜 (tables 𝓤 H 𝓜 𝓡 code.env))
     (cited 𝓤 H (tripleOf 𝓤 H (𝓖 .A) pick.signature (pick.spec 𝓤 H (𝓖 .A) (𝓜 .mem) (𝓡 .run))) 𝓜 𝓡 code.env #pick
     pick-def.routine code.calls-gateway·slice·pick (pick-thm.met 𝓤 H 𝓜 𝓖 𝓡))
-    (cited 𝓤 H (tripleOf 𝓤 H (𝓖 .A) do-stop.signature (do-stop.spec 𝓤 H (𝓖 .A) (𝓜 .mem) (𝓡 .run))) 𝓜 𝓡 code.env #do-stop
-    do-stop-def.routine code.calls-gateway·calls·do-stop (do-stop-thm.met 𝓤 H 𝓜 𝓖 𝓡))
+    (cited 𝓤 H (tripleOf 𝓤 H (𝓖 .A) do-restart.signature (do-restart.spec 𝓤 H (𝓖 .A) (𝓜 .mem) (𝓡 .run))) 𝓜 𝓡 code.env #do-restart
+    do-restart-def.routine code.calls-gateway·calls·do-restart (do-restart-thm.met 𝓤 H 𝓜 𝓖 𝓡))
     (cited 𝓤 H (tripleOf 𝓤 H (𝓖 .A) settle.signature (settle.spec 𝓤 H (𝓖 .A) (𝓜 .mem) (𝓡 .run))) 𝓜 𝓡 code.env #settle
     settle-def.routine code.calls-gateway·slice·settle (settle-thm.met 𝓤 H 𝓜 𝓖 𝓡)))

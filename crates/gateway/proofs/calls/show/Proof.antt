@@ -1,4 +1,4 @@
--- `gateway::calls::folderpink_show` meets its contract: CallShow of `lent`.
+-- `gateway::calls::show` meets its contract: CallShow of `lent`.
 use mathlib.Core.List.{List}
 use Prim.Native.Nat.{ℕ}
 use lib.ListN.{length}
@@ -33,10 +33,10 @@ use Rattle.gateway.proofs.slice.settle as settle
 use Rattle.gateway.proofs.slice.settle.Symbol as settle-def
 use Rattle.gateway.proofs.slice.settle.Symbol.{name as #settle}
 use Rattle.gateway.proofs.slice.settle.Met as settle-thm
-use Rattle.gateway.proofs.calls.folderpink_show.Key.{name as #folderpink-show}
-use Rattle.gateway.proofs.calls.folderpink_show as f
-use Rattle.gateway.proofs.calls.folderpink_show.Statement as stated
-use Rattle.gateway.proofs.calls.folderpink_show.Code as code
+use Rattle.gateway.proofs.calls.show.Key.{name as #show}
+use Rattle.gateway.proofs.calls.show as f
+use Rattle.gateway.proofs.calls.show.Statement as stated
+use Rattle.gateway.proofs.calls.show.Code as code
 
 abbrev ActSaid : Picked → List ℕ → List ℕ → Moved → List ℕ → Type 0
 ActSaid p v out m out′ = ShowMoves p v out out′ m
@@ -44,11 +44,11 @@ ActSaid p v out m out′ = ShowMoves p v out out′ m
 abbrev Then : List Record → Call → List ℕ → Called → List Record → List ℕ → Type 0
 Then ys c out r zs out′ = OutputSays (showIn (lent (c .gateway) ys) (c .clock) (length out) (c .entry)) zs out out′ r
 
-pub folderpink-show-spec : {M : Type 1} → stated.statement M
+pub show-spec : {M : Type 1} → stated.statement M
 unfolding code.routine tablesOf
-folderpink-show-spec 𝓤 H 𝓜 𝓖 𝓡 =
+show-spec 𝓤 H 𝓜 𝓖 𝓡 =
     entered 𝓤 H (tripleOf 𝓤 H (𝓖 .A) f.signature (f.spec 𝓤 H (𝓖 .A) (𝓜 .mem) (𝓡 .run)))
-    (tables 𝓤 H 𝓜 𝓡 code.env .C) (tables 𝓤 H 𝓜 𝓡 code.env .Λ) #folderpink-show code.function (code.unfolded 𝓤 H 𝓜 𝓡)
+    (tables 𝓤 H 𝓜 𝓡 code.env .C) (tables 𝓤 H 𝓜 𝓡 code.env .Λ) #show code.function (code.unfolded 𝓤 H 𝓜 𝓡)
     (call-meets rec call pick-type value move called plains value-plain #pick #value-at #do-show #settle PickSaid ReadSaid
     ActSaid SettleSaid Then show-follows
     𝓤 H (𝓖 .A) (givenOf 𝓤 H 𝓜 𝓖) (tablesOf 𝓤 H 𝓜 (tables 𝓤 H 𝓜 𝓡 code.env))

@@ -1,4 +1,4 @@
--- `gateway::deliver::folderpink_deliver` meets its contract: CallDeliver of `lent`.
+-- `gateway::deliver::deliver` meets its contract: CallDeliver of `lent`.
 use mathlib.Core.Path.{_≡_}
 use mathlib.Core.List.{List}
 use Prim.Native.Nat.{ℕ}
@@ -45,10 +45,10 @@ use Rattle.gateway.proofs.slice.put_value as put-value
 use Rattle.gateway.proofs.slice.put_value.Symbol as put-value-def
 use Rattle.gateway.proofs.slice.put_value.Symbol.{name as #put-value}
 use Rattle.gateway.proofs.slice.put_value.Met as put-value-thm
-use Rattle.gateway.proofs.deliver.folderpink_deliver.Key.{name as #folderpink-deliver}
-use Rattle.gateway.proofs.deliver.folderpink_deliver as f
-use Rattle.gateway.proofs.deliver.folderpink_deliver.Statement as stated
-use Rattle.gateway.proofs.deliver.folderpink_deliver.Code as code
+use Rattle.gateway.proofs.deliver.deliver.Key.{name as #deliver}
+use Rattle.gateway.proofs.deliver.deliver as f
+use Rattle.gateway.proofs.deliver.deliver.Statement as stated
+use Rattle.gateway.proofs.deliver.deliver.Code as code
 
 abbrev HearSaid : Call → List ℕ → Sought → Type 0
 HearSaid c s k = k ≡ soughtOf c (connectionIn s)
@@ -62,11 +62,11 @@ MakeSaid m s v = v ≡ paddedOf (bodyIn s)
 abbrev Then : List Record → Call → List ℕ → List ℕ → Called → List Record → List ℕ → Type 0
 Then ys c s out r zs out′ = OutputSays (deliverIn (lent (c .gateway) ys) (c .clock) (length out) s) zs out out′ r
 
-pub folderpink-deliver-spec : {M : Type 1} → stated.statement M
+pub deliver-spec : {M : Type 1} → stated.statement M
 unfolding code.routine tablesOf
-folderpink-deliver-spec 𝓤 H 𝓜 𝓖 𝓡 =
+deliver-spec 𝓤 H 𝓜 𝓖 𝓡 =
     entered 𝓤 H (tripleOf 𝓤 H (𝓖 .A) f.signature (f.spec 𝓤 H (𝓖 .A) (𝓜 .mem) (𝓡 .run)))
-    (tables 𝓤 H 𝓜 𝓡 code.env .C) (tables 𝓤 H 𝓜 𝓡 code.env .Λ) #folderpink-deliver code.function (code.unfolded 𝓤 H 𝓜 𝓡)
+    (tables 𝓤 H 𝓜 𝓡 code.env .C) (tables 𝓤 H 𝓜 𝓡 code.env .Λ) #deliver code.function (code.unfolded 𝓤 H 𝓜 𝓡)
     (call-meets rec call sought pick move value called plains sought-plain value-plain #hear #seek #do-deliver #body-of #settle
     #put-value HearSaid SeekSaid ActSaid SettleSaid MakeSaid PutSaid Then deliver-follows
     𝓤 H (𝓖 .A) (givenOf 𝓤 H 𝓜 𝓖) (tablesOf 𝓤 H 𝓜 (tables 𝓤 H 𝓜 𝓡 code.env))

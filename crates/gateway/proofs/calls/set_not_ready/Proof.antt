@@ -1,4 +1,4 @@
--- `gateway::calls::folderpink_restart` meets its contract: Call of `lent`.
+-- `gateway::calls::set_not_ready` meets its contract: Call of `lent`.
 use mathlib.Core.Path.{refl}
 use mathlib.Core.List.{List}
 use Prim.Native.Nat.{ℕ}
@@ -6,9 +6,10 @@ use Rattle.steps.specs.Steps as S
 use Rattle.records.specs.declared.Record.{Record}
 use Rattle.gateway.specs.declared.Call.{Call}
 use Rattle.gateway.specs.declared.Called.{Called}
-use Rattle.steps.proofs.Quiet.{restart-quiet}
+use Rattle.records.specs.Records.{isSet}
+use Rattle.steps.proofs.Quiet.{not-ready-quiet}
 use Rattle.gateway.specs.Tables.{lent}
-use Rattle.gateway.specs.Calls.{restartIn, CallSays}
+use Rattle.gateway.specs.Calls.{setNotReadyIn, CallSays}
 use Rattle.gateway.proofs.Types.{rec, call, pick as pick-type, move, called, plains}
 use Rattle.gateway.proofs.Parts.{PickSaid, SettleSaid}
 use Rattle.gateway.proofs.Follows.{PlainSaid, plain-follows}
@@ -20,37 +21,37 @@ use Rattle.gateway.proofs.slice.pick as pick
 use Rattle.gateway.proofs.slice.pick.Symbol as pick-def
 use Rattle.gateway.proofs.slice.pick.Symbol.{name as #pick}
 use Rattle.gateway.proofs.slice.pick.Met as pick-thm
-use Rattle.gateway.proofs.calls.do_restart as do-restart
-use Rattle.gateway.proofs.calls.do_restart.Symbol as do-restart-def
-use Rattle.gateway.proofs.calls.do_restart.Symbol.{name as #do-restart}
-use Rattle.gateway.proofs.calls.do_restart.Met as do-restart-thm
+use Rattle.gateway.proofs.calls.do_set_not_ready as do-set-not-ready
+use Rattle.gateway.proofs.calls.do_set_not_ready.Symbol as do-set-not-ready-def
+use Rattle.gateway.proofs.calls.do_set_not_ready.Symbol.{name as #do-set-not-ready}
+use Rattle.gateway.proofs.calls.do_set_not_ready.Met as do-set-not-ready-thm
 use Rattle.gateway.proofs.slice.settle as settle
 use Rattle.gateway.proofs.slice.settle.Symbol as settle-def
 use Rattle.gateway.proofs.slice.settle.Symbol.{name as #settle}
 use Rattle.gateway.proofs.slice.settle.Met as settle-thm
-use Rattle.gateway.proofs.calls.folderpink_restart.Key.{name as #folderpink-restart}
-use Rattle.gateway.proofs.calls.folderpink_restart as f
-use Rattle.gateway.proofs.calls.folderpink_restart.Statement as stated
-use Rattle.gateway.proofs.calls.folderpink_restart.Code as code
+use Rattle.gateway.proofs.calls.set_not_ready.Key.{name as #set-not-ready}
+use Rattle.gateway.proofs.calls.set_not_ready as f
+use Rattle.gateway.proofs.calls.set_not_ready.Statement as stated
+use Rattle.gateway.proofs.calls.set_not_ready.Code as code
 
 abbrev asks : Call → S.Call
-asks c = S.act S.restart
+asks c = S.act (S.setNotReady (isSet (c .notready)))
 
 abbrev Then : List Record → Call → Called → List Record → Type 0
-Then ys c r zs = CallSays (restartIn (lent (c .gateway) ys) (c .clock) (c .entry)) zs r
+Then ys c r zs = CallSays (setNotReadyIn (lent (c .gateway) ys) (c .clock) (c .entry) (isSet (c .notready))) zs r
 
-pub folderpink-restart-spec : {M : Type 1} → stated.statement M
+pub set-not-ready-spec : {M : Type 1} → stated.statement M
 unfolding code.routine tablesOf
-folderpink-restart-spec 𝓤 H 𝓜 𝓖 𝓡 =
+set-not-ready-spec 𝓤 H 𝓜 𝓖 𝓡 =
     entered 𝓤 H (tripleOf 𝓤 H (𝓖 .A) f.signature (f.spec 𝓤 H (𝓖 .A) (𝓜 .mem) (𝓡 .run)))
-    (tables 𝓤 H 𝓜 𝓡 code.env .C) (tables 𝓤 H 𝓜 𝓡 code.env .Λ) #folderpink-restart code.function (code.unfolded 𝓤 H 𝓜 𝓡)
-    (call-meets rec call pick-type move called plains #pick #do-restart #settle PickSaid
-    (PlainSaid asks (λ x. refl) (λ x a. refl) (λ e u x. restart-quiet e)) SettleSaid Then
-    (plain-follows asks (λ x. refl) (λ x a. refl) (λ e u x. restart-quiet e))
+    (tables 𝓤 H 𝓜 𝓡 code.env .C) (tables 𝓤 H 𝓜 𝓡 code.env .Λ) #set-not-ready code.function (code.unfolded 𝓤 H 𝓜 𝓡)
+    (call-meets rec call pick-type move called plains #pick #do-set-not-ready #settle PickSaid
+    (PlainSaid asks (λ x. refl) (λ x a. refl) (λ e u x. not-ready-quiet e (isSet (x .notready)))) SettleSaid Then
+    (plain-follows asks (λ x. refl) (λ x a. refl) (λ e u x. not-ready-quiet e (isSet (x .notready))))
     𝓤 H (𝓖 .A) (givenOf 𝓤 H 𝓜 𝓖) (tablesOf 𝓤 H 𝓜 (tables 𝓤 H 𝓜 𝓡 code.env))
     (cited 𝓤 H (tripleOf 𝓤 H (𝓖 .A) pick.signature (pick.spec 𝓤 H (𝓖 .A) (𝓜 .mem) (𝓡 .run))) 𝓜 𝓡 code.env #pick
     pick-def.routine code.calls-gateway·slice·pick (pick-thm.met 𝓤 H 𝓜 𝓖 𝓡))
-    (cited 𝓤 H (tripleOf 𝓤 H (𝓖 .A) do-restart.signature (do-restart.spec 𝓤 H (𝓖 .A) (𝓜 .mem) (𝓡 .run))) 𝓜 𝓡 code.env #do-restart
-    do-restart-def.routine code.calls-gateway·calls·do-restart (do-restart-thm.met 𝓤 H 𝓜 𝓖 𝓡))
+    (cited 𝓤 H (tripleOf 𝓤 H (𝓖 .A) do-set-not-ready.signature (do-set-not-ready.spec 𝓤 H (𝓖 .A) (𝓜 .mem) (𝓡 .run))) 𝓜 𝓡 code.env #do-set-not-ready
+    do-set-not-ready-def.routine code.calls-gateway·calls·do-set-not-ready (do-set-not-ready-thm.met 𝓤 H 𝓜 𝓖 𝓡))
     (cited 𝓤 H (tripleOf 𝓤 H (𝓖 .A) settle.signature (settle.spec 𝓤 H (𝓖 .A) (𝓜 .mem) (𝓡 .run))) 𝓜 𝓡 code.env #settle
     settle-def.routine code.calls-gateway·slice·settle (settle-thm.met 𝓤 H 𝓜 𝓖 𝓡)))

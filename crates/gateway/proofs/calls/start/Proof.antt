@@ -1,4 +1,4 @@
--- `gateway::calls::folderpink_start` meets its contract: Call of `lent`.
+-- `gateway::calls::start` meets its contract: Call of `lent`.
 use mathlib.Core.Path.{refl}
 use mathlib.Core.List.{List}
 use Prim.Native.Nat.{ℕ}
@@ -28,10 +28,10 @@ use Rattle.gateway.proofs.slice.settle as settle
 use Rattle.gateway.proofs.slice.settle.Symbol as settle-def
 use Rattle.gateway.proofs.slice.settle.Symbol.{name as #settle}
 use Rattle.gateway.proofs.slice.settle.Met as settle-thm
-use Rattle.gateway.proofs.calls.folderpink_start.Key.{name as #folderpink-start}
-use Rattle.gateway.proofs.calls.folderpink_start as f
-use Rattle.gateway.proofs.calls.folderpink_start.Statement as stated
-use Rattle.gateway.proofs.calls.folderpink_start.Code as code
+use Rattle.gateway.proofs.calls.start.Key.{name as #start}
+use Rattle.gateway.proofs.calls.start as f
+use Rattle.gateway.proofs.calls.start.Statement as stated
+use Rattle.gateway.proofs.calls.start.Code as code
 
 abbrev asks : Call → S.Call
 asks c = S.act S.start
@@ -39,11 +39,11 @@ asks c = S.act S.start
 abbrev Then : List Record → Call → Called → List Record → Type 0
 Then ys c r zs = CallSays (startIn (lent (c .gateway) ys) (c .clock) (c .entry)) zs r
 
-pub folderpink-start-spec : {M : Type 1} → stated.statement M
+pub start-spec : {M : Type 1} → stated.statement M
 unfolding code.routine tablesOf
-folderpink-start-spec 𝓤 H 𝓜 𝓖 𝓡 =
+start-spec 𝓤 H 𝓜 𝓖 𝓡 =
     entered 𝓤 H (tripleOf 𝓤 H (𝓖 .A) f.signature (f.spec 𝓤 H (𝓖 .A) (𝓜 .mem) (𝓡 .run)))
-    (tables 𝓤 H 𝓜 𝓡 code.env .C) (tables 𝓤 H 𝓜 𝓡 code.env .Λ) #folderpink-start code.function (code.unfolded 𝓤 H 𝓜 𝓡)
+    (tables 𝓤 H 𝓜 𝓡 code.env .C) (tables 𝓤 H 𝓜 𝓡 code.env .Λ) #start code.function (code.unfolded 𝓤 H 𝓜 𝓡)
     (call-meets rec call pick-type move called plains #pick #do-start #settle PickSaid
     (PlainSaid asks (λ x. refl) (λ x a. refl) (λ e u x. start-quiet e u)) SettleSaid Then
     (plain-follows asks (λ x. refl) (λ x a. refl) (λ e u x. start-quiet e u))
