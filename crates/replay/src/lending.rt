@@ -3,14 +3,6 @@
 ghost use Prim.Native.Nat.{_≤_};
 use gateway::Call;
 use gateway::Called;
-use gateway::calls::folderpink_restart;
-use gateway::calls::folderpink_send;
-use gateway::calls::folderpink_set_not_ready;
-use gateway::calls::folderpink_show;
-use gateway::calls::folderpink_start;
-use gateway::calls::folderpink_stop;
-use gateway::deliver::folderpink_deliver;
-use gateway::load::folderpink_load;
 use records::Record;
 
 // What a call leaves of all records, and what it answers.
@@ -23,7 +15,7 @@ pub(crate) fn start(rs: [Record; 70], n: usize, c: Call) -> Answered
     requires { ⌜ n ≤ 70 ⌝ }
 {
     let mut a = rs;
-    let called = folderpink_start(&mut a[..n], c);
+    let called = gateway::calls::start(&mut a[..n], c);
     Answered {
         records: a,
         called: called,
@@ -34,7 +26,7 @@ pub(crate) fn restart(rs: [Record; 70], n: usize, c: Call) -> Answered
     requires { ⌜ n ≤ 70 ⌝ }
 {
     let mut a = rs;
-    let called = folderpink_restart(&mut a[..n], c);
+    let called = gateway::calls::restart(&mut a[..n], c);
     Answered {
         records: a,
         called: called,
@@ -45,7 +37,7 @@ pub(crate) fn set_not_ready(rs: [Record; 70], n: usize, c: Call) -> Answered
     requires { ⌜ n ≤ 70 ⌝ }
 {
     let mut a = rs;
-    let called = folderpink_set_not_ready(&mut a[..n], c);
+    let called = gateway::calls::set_not_ready(&mut a[..n], c);
     Answered {
         records: a,
         called: called,
@@ -56,7 +48,7 @@ pub(crate) fn stop(rs: [Record; 70], n: usize, c: Call, out: &mut [u8]) -> Answe
     requires { ⌜ n ≤ 70 ⌝ }
 {
     let mut a = rs;
-    let called = folderpink_stop(&mut a[..n], c, out);
+    let called = gateway::calls::stop(&mut a[..n], c, out);
     Answered {
         records: a,
         called: called,
@@ -67,7 +59,7 @@ pub(crate) fn show(rs: [Record; 70], n: usize, c: Call, out: &mut [u8]) -> Answe
     requires { ⌜ n ≤ 70 ⌝ }
 {
     let mut a = rs;
-    let called = folderpink_show(&mut a[..n], c, out);
+    let called = gateway::calls::show(&mut a[..n], c, out);
     Answered {
         records: a,
         called: called,
@@ -78,7 +70,7 @@ pub(crate) fn send(rs: [Record; 70], n: usize, c: Call, bytes: &[u8], out: &mut 
     requires { ⌜ n ≤ 70 ⌝ }
 {
     let mut a = rs;
-    let called = folderpink_send(&mut a[..n], c, bytes, out);
+    let called = gateway::calls::send(&mut a[..n], c, bytes, out);
     Answered {
         records: a,
         called: called,
@@ -89,7 +81,7 @@ pub(crate) fn deliver(rs: [Record; 70], n: usize, c: Call, bytes: &[u8], out: &m
     requires { ⌜ n ≤ 70 ⌝ }
 {
     let mut a = rs;
-    let called = folderpink_deliver(&mut a[..n], c, bytes, out);
+    let called = gateway::deliver::deliver(&mut a[..n], c, bytes, out);
     Answered {
         records: a,
         called: called,
@@ -100,7 +92,7 @@ pub(crate) fn load(rs: [Record; 70], n: usize, list: &[u32]) -> Answered
     requires { ⌜ n ≤ 70 ⌝ }
 {
     let mut a = rs;
-    let called = folderpink_load(&mut a[..n], list);
+    let called = gateway::load::load(&mut a[..n], list);
     Answered {
         records: a,
         called: called,

@@ -5,10 +5,10 @@ use denote.Triple.Spec.{tripleOf}
 use denote.Triple.Table.{entered, cited}
 use Rattle.lent.proofs.ByValueList.{by-value-meets}
 use Rattle.gateway.proofs.Types.{rec, called}
-use Rattle.gateway.proofs.load.folderpink_load as lent
-use Rattle.gateway.proofs.load.folderpink_load.Symbol as lent-def
-use Rattle.gateway.proofs.load.folderpink_load.Symbol.{name as #lent}
-use Rattle.gateway.proofs.load.folderpink_load.Met as lent-thm
+use Rattle.gateway.proofs.load.load as lent
+use Rattle.gateway.proofs.load.load.Symbol as lent-def
+use Rattle.gateway.proofs.load.load.Symbol.{name as #lent}
+use Rattle.gateway.proofs.load.load.Met as lent-thm
 use Rattle.replay.proofs.Types.{answered, answers, room}
 use Rattle.replay.proofs.lending.load.Key.{name as #lending}
 use Rattle.replay.proofs.lending.load as f
@@ -24,4 +24,4 @@ load-spec 𝓤 H 𝓜 𝓖 𝓡 =
     (λ κs a r e. lent.clauses 𝓤 H (𝓖 .A) (𝓜 .mem) (𝓡 .run) κs a .ensures tt r e)
     (tablesOf 𝓤 H 𝓜 (tables 𝓤 H 𝓜 𝓡 code.env))
     (cited 𝓤 H (tripleOf 𝓤 H (𝓖 .A) lent.signature (lent.spec 𝓤 H (𝓖 .A) (𝓜 .mem) (𝓡 .run))) 𝓜 𝓡 code.env #lent
-    lent-def.routine code.calls-gateway·load·folderpink-load (lent-thm.met 𝓤 H 𝓜 𝓖 𝓡)))
+    lent-def.routine code.calls-gateway·load·load (lent-thm.met 𝓤 H 𝓜 𝓖 𝓡)))

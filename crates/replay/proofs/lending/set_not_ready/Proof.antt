@@ -4,10 +4,10 @@ use denote.Triple.Spec.{tripleOf}
 use denote.Triple.Table.{entered, cited}
 use Rattle.lent.proofs.ByValue.{by-value-meets}
 use Rattle.gateway.proofs.Types.{rec, call, call-plain, called}
-use Rattle.gateway.proofs.calls.folderpink_set_not_ready as lent
-use Rattle.gateway.proofs.calls.folderpink_set_not_ready.Symbol as lent-def
-use Rattle.gateway.proofs.calls.folderpink_set_not_ready.Symbol.{name as #lent}
-use Rattle.gateway.proofs.calls.folderpink_set_not_ready.Met as lent-thm
+use Rattle.gateway.proofs.calls.set_not_ready as lent
+use Rattle.gateway.proofs.calls.set_not_ready.Symbol as lent-def
+use Rattle.gateway.proofs.calls.set_not_ready.Symbol.{name as #lent}
+use Rattle.gateway.proofs.calls.set_not_ready.Met as lent-thm
 use Rattle.replay.proofs.Types.{answered, answers, room}
 use Rattle.replay.proofs.lending.set_not_ready.Key.{name as #lending}
 use Rattle.replay.proofs.lending.set_not_ready as f
@@ -23,4 +23,4 @@ set-not-ready-spec 𝓤 H 𝓜 𝓖 𝓡 =
     (λ κs a r e. lent.clauses 𝓤 H (𝓖 .A) (𝓜 .mem) (𝓡 .run) κs a .ensures tt r e)
     (tablesOf 𝓤 H 𝓜 (tables 𝓤 H 𝓜 𝓡 code.env))
     (cited 𝓤 H (tripleOf 𝓤 H (𝓖 .A) lent.signature (lent.spec 𝓤 H (𝓖 .A) (𝓜 .mem) (𝓡 .run))) 𝓜 𝓡 code.env #lent
-    lent-def.routine code.calls-gateway·calls·folderpink-set-not-ready (lent-thm.met 𝓤 H 𝓜 𝓖 𝓡)))
+    lent-def.routine code.calls-gateway·calls·set-not-ready (lent-thm.met 𝓤 H 𝓜 𝓖 𝓡)))
