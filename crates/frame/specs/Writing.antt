@@ -9,6 +9,7 @@ use Rattle.words.specs.Words.{wordBytes}
 use Rattle.words.specs.Output.{over}
 use Rattle.crc.specs.Crc.{crc}
 use Rattle.frame.specs.declared.Fields.{Fields}
+use Rattle.frame.specs.declared.Head.{Head}
 use Rattle.frame.specs.Control.{controlOf, hasForm}
 
 -- T code, the upper half, and OBL
@@ -54,3 +55,22 @@ writtenOf f body room =
 pub record WriteSays (f : Fields) (body out out′ : List ℕ) (count : ℕ) : Type 0 where
   pub counted : count ≡ length (writtenOf f body (length out))
   pub left : out′ ≡ over (writtenOf f body (length out)) out
+
+-- ---- a frame from its words
+-- the words of fields; of a timestamp from 2^48 on, which no frame has, CC keeps the lower 32 bits
+abbrev pub headOf : Fields → Head
+headOf f = record { control = controlOf f; connection = f .connection; time = timeOf f; carry = carryOf f % 2 ^ 32 }
+
+-- the frame of the words, whether or not fields have them
+unfoldable pub frameOf : Head → List ℕ → List ℕ
+frameOf h body = twice (withCheckWord (headBytes (h .control) (h .connection) (h .time) (h .carry) body))
+
+-- what is written to an output of `room` bytes: the frame; nothing where the body is no frame's or it does not fit
+unfoldable pub writtenFrom : Head → List ℕ → ℕ → List ℕ
+writtenFrom h body room =
+    cond (isBodyLength (length body) && leb (48 + 2 * length body) room) (frameOf h body) []
+
+-- what write_head answers (the count) and leaves in the output
+pub record HeadSays (h : Head) (body out out′ : List ℕ) (count : ℕ) : Type 0 where
+  pub counted : count ≡ length (writtenFrom h body (length out))
+  pub left : out′ ≡ over (writtenFrom h body (length out)) out

@@ -54,6 +54,18 @@ pub struct Fields {
     pub baseline: u16,
 }
 
+// The words of a SubPDU before RSV.
+pub struct Head {
+    // CTRL
+    pub control: u32,
+    // CID
+    pub connection: u32,
+    // T code, the upper half, and OBL
+    pub time: u32,
+    // CC
+    pub carry: u32,
+}
+
 // Where a part of some bytes lies.
 pub struct Span {
     pub start: usize,
