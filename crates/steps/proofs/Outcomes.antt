@@ -13,7 +13,8 @@ use Rattle.endpoint.specs.declared.Answer.the-variants.{Dropped}
 use Rattle.steps.specs.declared.Stepped.{Stepped}
 use Rattle.steps.specs.Frames.{nothing, frame}
 use Rattle.steps.specs.Calls.{Outcome, outcome}
-use Rattle.steps.specs.Says.{withRoom, steppedOf, StepSays, WholeSays}
+use Rattle.steps.specs.Says.{withRoom, steppedOf, StepSays}
+use Rattle.steps.proofs.Whole.{WholeSays}
 
 -- ---- an outcome that writes nothing, and one that writes a frame
 module _ (out : List ℕ) (o : Outcome) (a : Answer) (x : Endpoint) where

@@ -12,9 +12,11 @@ use Rattle.frame.specs.declared.Command.{Command}
 use Rattle.frame.specs.declared.Command.the-variants as K
 use Rattle.frame.specs.declared.Fields.{Fields}
 use Rattle.frame.specs.Control.{is, mayBeBusy, hasForm}
-use Rattle.frame.specs.Writing.{isBodyLength, isWritable, writtenOf, WriteSays}
+use Rattle.frame.specs.Writing.{frameBytes, isBodyLength, isWritable, writtenOf, headOf, HeadSays}
 use mathlib.Mathlib.Data.Bool.Basic.{and-elim-left as and-left, and-elim-right as and-right, and-intro as both}
 use Rattle.frame.proofs.Lengths.{can-be-written}
+use Rattle.frame.proofs.Written.{written}
+use Rattle.words.specs.Output.{over}
 use Rattle.endpoint.specs.declared.Settings.{Settings}
 use Rattle.endpoint.specs.declared.State.{State}
 use Rattle.endpoint.specs.declared.State.the-variants.{Close, Starting, EstablishPending, Establish, ParamVerify}
@@ -25,17 +27,22 @@ use Rattle.endpoint.specs.Due.{requestDue, isBusy}
 use Rattle.endpoint.specs.Time.{span, timeOf}
 use Rattle.steps.specs.Frames.{setupData, dueData, widthOf, sendWidth, showWidth, sentFields, ackFields}
 use Rattle.steps.specs.Frames.{baselineOf, requestFields, refreshFields, disconnectFields, replyFields}
-use Rattle.steps.specs.Says.{WholeSays}
+
+-- the frame of the fields, all of it, and the rest of the output stays
+pub record WholeSays (f : Fields) (body out out′ : List ℕ) (count : ℕ) : Type 0 where
+  pub counted : count ≡ length (frameBytes f body)
+  pub output : out′ ≡ over (frameBytes f body) out
 
 pub whole : (f : Fields) (body out : List ℕ) {out′ : List ℕ} {count : ℕ} → 248 ≤ length out
     → isWritable f (length body) ≡ true
-    → WriteSays f body out out′ count → WholeSays f body out out′ count
+    → HeadSays (headOf f) body out out′ count → WholeSays f body out out′ count
 unfolding writtenOf
 whole f body out h w s =
     let c = can-be-written f (length body) w in
+    let x = written f body out w s in
     let t : (isWritable f (length body) && leb (48 + 2 * length body) (length out)) ≡ true =
     both w (le-leb (48 + 2 * length body) (length out) (omega arith)) in
-    record { counted = rw t at (s .counted); output = rw t at (s .left) }
+    record { counted = rw t at (x .counted); output = rw t at (x .left) }
 
 -- ---- lengths of bodies
 pub setup-length : (s : Settings) (k : Command) → isBodyLength (length (setupData s k)) ≡ true

@@ -5,9 +5,7 @@ use mathlib.Core.List.{List, []}
 use Prim.Native.Nat.{ℕ, _≤_}
 use lib.Dec.{ltb}
 use lib.ListN.{length, take}
-use Rattle.frame.specs.declared.Fields.{Fields}
 use Rattle.words.specs.Output.{over}
-use Rattle.frame.specs.Writing.{frameBytes}
 use Rattle.endpoint.specs.declared.Core.{Core}
 use Rattle.endpoint.specs.Endpoint.{Endpoint, coreOf}
 use Rattle.endpoint.specs.declared.Reason.the-variants as R
@@ -54,8 +52,3 @@ pub record ShowSays (e : Endpoint) (out out′ : List ℕ) (r : Shown) : Type 0 
   pub counted : r .count ≡ length (shownTo (length out) e)
   pub marked : r .failsafe ≡ isFailSafe e
   pub output : out′ ≡ over (shownTo (length out) e) out
-
--- a frame that can be written, to an output that has room for every frame: all of it, and the rest stays
-pub record WholeSays (f : Fields) (body out out′ : List ℕ) (count : ℕ) : Type 0 where
-  pub counted : count ≡ length (frameBytes f body)
-  pub output : out′ ≡ over (frameBytes f body) out

@@ -49,6 +49,7 @@ use frame::Command;
 use frame::Fields;
 use frame::LONGEST_FRAME;
 use frame::control::is;
+use frame::write::head_of;
 use transitions::by_frame::ended_by;
 use transitions::by_frame::heard;
 use transitions::by_frame::refreshed;
@@ -158,7 +159,8 @@ fn take_request(e: Core, clock: u64, f: Fields, body: &[u8], out: &mut [u8]) -> 
         return stepped(answer, next, 0);
     }
     let busy = done & is_busy(e, k);
-    let count = write_whole(reply_fields(e, f, busy, is_ended(answer)), body, out);
+    let reply = reply_fields(e, f, busy, is_ended(answer));
+    let count = write_whole(head_of(reply), body, out);
     stepped(answer, next, count)
 }
 

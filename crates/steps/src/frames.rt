@@ -7,9 +7,8 @@ ghost use lib.ListN.{length};
 ghost use Rattle.words.specs.Words.{wordBytes};
 ghost use Rattle.steps.specs.Frames.{setupData, dueData, widthOf, sendWidth, showWidth, sentFields, baselineOf};
 ghost use Rattle.steps.specs.Frames.{requestFields, refreshFields, disconnectFields, replyFields};
-ghost use Rattle.steps.specs.Says.{bytesIn, DataSays, WholeSays};
-ghost use Rattle.frame.specs.Writing.{isWritable};
-ghost use mathlib.Core.Bool.{true};
+ghost use Rattle.steps.specs.Says.{bytesIn, DataSays};
+ghost use Rattle.frame.specs.Writing.{HeadSays};
 use super::SetupData;
 use endpoint::Core;
 use endpoint::Settings;
@@ -18,6 +17,7 @@ use endpoint::time::passed;
 use endpoint::time::time_of;
 use frame::Command;
 use frame::Fields;
+use frame::Head;
 use frame::Subconnection;
 use frame::TIMESTAMP_MODULUS;
 use words::put_word;
@@ -188,21 +188,19 @@ pub(crate) fn reply_fields(e: Core, f: Fields, busy: bool, error: bool) -> Field
     }
 }
 
-// Writes a frame that can be written to an output that has room for every frame.
-pub(crate) fn write_whole(fields: Fields, body: &[u8], out: &mut [u8]) -> usize
-    requires { ⌜ (248 ≤ length (now out)) × (isWritable fields (length (now body)) ≡ true) ⌝ }
-    ensures { λ r. ⌜ WholeSays fields (now (body .entry)) (now (out .entry)) (now (out .exit)) r ⌝ }
+// Writes a frame from its words. The callers work these out, where the fields are known; the writing is one function.
+pub(crate) fn write_whole(head: Head, body: &[u8], out: &mut [u8]) -> usize
+    ensures { λ r. ⌜ HeadSays head (now (body .entry)) (now (out .entry)) (now (out .exit)) r ⌝ }
 {
-    frame::write::write_frame(fields, body, out)
+    frame::write::write_head(head, body, out)
 }
 
 // Writes a frame with the data of a setup request.
-pub(crate) fn write_data(fields: Fields, carried: SetupData, out: &mut [u8]) -> usize
-    requires { ⌜ (248 ≤ length (now out)) × (carried .length ≤ length (carried .bytes))
-        × (isWritable fields (length (bytesIn carried)) ≡ true) ⌝ }
-    ensures { λ r. ⌜ WholeSays fields (bytesIn carried) (now (out .entry)) (now (out .exit)) r ⌝ }
+pub(crate) fn write_data(head: Head, carried: SetupData, out: &mut [u8]) -> usize
+    requires { ⌜ carried .length ≤ length (carried .bytes) ⌝ }
+    ensures { λ r. ⌜ HeadSays head (bytesIn carried) (now (out .entry)) (now (out .exit)) r ⌝ }
 {
     let bytes = carried.bytes;
     let n = carried.length;
-    write_whole(fields, &bytes[..n], out)
+    write_whole(head, &bytes[..n], out)
 }

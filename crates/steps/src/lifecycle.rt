@@ -23,6 +23,7 @@ use endpoint::time::is_above;
 use endpoint::time::time_of;
 use frame::Command;
 use frame::LONGEST_FRAME;
+use frame::write::head_of;
 use transitions::by_call::restarted;
 use transitions::by_call::started;
 use transitions::by_call::stopped;
@@ -98,6 +99,6 @@ pub fn stop(e: Core, clock: u64, out: &mut [u8]) -> Stepped
     }
     let settings = e.settings;
     let data = setup_data(settings, Command::Disconnect);
-    let count = write_data(disconnect_fields(e, clock), data, out);
+    let count = write_data(head_of(disconnect_fields(e, clock)), data, out);
     stepped(Answer::Done, stopped(e, clock), count)
 }

@@ -27,6 +27,7 @@ use endpoint::table::is_state;
 use endpoint::time::is_above;
 use endpoint::time::time_of;
 use frame::LONGEST_FRAME;
+use frame::write::head_of;
 use transitions::by_call::refresh_sent;
 use transitions::by_call::requested;
 
@@ -65,9 +66,9 @@ pub fn send(e: Core, clock: u64, value: &[u8], out: &mut [u8]) -> Stepped
     }
     let state = e.state;
     if is_state(state, State::Refresh) {
-        let count = write_whole(refresh_fields(e, clock), value, out);
+        let count = write_whole(head_of(refresh_fields(e, clock)), value, out);
         return stepped(Answer::Done, refresh_sent(e, clock), count);
     }
-    let count = write_data(request_fields(e, clock), due_data(e), out);
+    let count = write_data(head_of(request_fields(e, clock)), due_data(e), out);
     stepped(Answer::Done, requested(e, clock), count)
 }

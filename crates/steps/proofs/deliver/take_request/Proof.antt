@@ -8,21 +8,20 @@ use Prim.Native.Nat.{ℕ}
 use Rattle.frame.specs.declared.Command.the-variants as K
 use Rattle.frame.specs.declared.Fields.{Fields}
 use Rattle.frame.specs.Control.{is}
-use Rattle.frame.specs.Writing.{isBodyLength}
 use Rattle.endpoint.specs.declared.Answer.{Answer}
 use Rattle.endpoint.specs.declared.Core.{Core}
 use Rattle.endpoint.specs.Endpoint.{Endpoint, bare, coreOf}
 use Rattle.endpoint.specs.Answers.{firstOf, isDone, isDropped, isEnded, leftBy}
 use Rattle.endpoint.specs.Due.{isBusy}
 use Rattle.transitions.specs.ByFrame.{endedBy, takenOf}
-use Rattle.steps.specs.Calls.{Outcome, outcome}
+use Rattle.steps.specs.Calls.{outcome}
 use Rattle.steps.specs.Deliveries.{requestFaults, repliedOf, takeRequest}
 use Rattle.steps.specs.Frames.{Written, nothing, frame, replyFields}
 use Rattle.steps.specs.Says.{steppedOf}
 use Rattle.steps.proofs.Firsts.{request-width}
 use Rattle.steps.proofs.Left.{left-dropped, left-answered}
 use Rattle.steps.proofs.Outcomes.{quiet-step, loud-step}
-use Rattle.steps.proofs.Whole.{setup-length, reply-writable}
+use Rattle.steps.proofs.Whole.{whole, setup-length, reply-writable}
 use Rattle.steps.proofs.deliver.take_request.Statement.{statement}
 use Rattle.steps.proofs.deliver.take_request.Tie as tie
 
@@ -39,6 +38,9 @@ module _ (e : Endpoint) (t : ℕ) (f : Fields) (body : List ℕ) (a : Answer) (q
 
   by : takeRequest e t f body ≡ outcome a (leftBy a e ends next) (repliedOf e f body a)
   by = ap (λ (x : Answer). outcome x (leftBy x e ends next) (repliedOf e f body x)) (sym q)
+
+  left-is : {done : Bool} {x : Core} → x ≡ coreOf (cond done next ends) → done ≡ isDone a → x ≡ coreOf leaves
+  left-is p h = p ∙ ap (λ (b : Bool). coreOf (cond b next ends)) h
 
   abbrev reply : Bool → Bool → Written
   reply dropped disconnect =
@@ -79,36 +81,14 @@ returns-2 c =
     (leaves e (a .clock) (a .f) (a .body .now) r (s .request-answer .ensures))
     (answered-is e (a .clock) (a .f) (a .body .now) r (s .request-answer .ensures) true
     (sym (i .before .is-dropped .ensures) ∙ i .if1 .left) (sym (k .is .ensures) ∙ j .if2 .taken))
-    (c .stepped2 .ensures ∙ ap (λ (x : Core). steppedOf r x 0) (l .left .ensures
-    ∙ ap (λ (b : Bool). coreOf (cond b (takenOf e (a .clock) (a .f)) (endedBy e (a .f .timestamp)))) (d .is-done .ensures)))
-
-write-whole-requires : tie.Need-write-whole-requires
-write-whole-requires c κs =
-    let f = c .before in
-    let b = f .before .before in
-    let j = b .before in
-    let k = j .before in
-    let d = k .before .before in
-    let i = d .before in
-    let s = i .before .before in
-    let t = s .before .before .before in
-    let a = t .args in
-    let e = bare (a .e) in
-    let x = a .body .now in
-    let w = request-width e (a .f) x
-    (rw (← s .request-answer .ensures) (sym (i .before .is-dropped .ensures) ∙ i .if1 .left)) in
-    let l : isBodyLength (length x) ≡ true = rw w (setup-length (a .e .settings) (a .f .command)) in (
-      t .pre .0,
-      rw (f .reply-fields .ensures, b .is-busy .ensures)
-          (reply-writable e (a .clock) (a .f) (d .is-done .result) (f .before .is-ended .result) (length x)
-          (t .pre .1)
-          (sym (k .is .ensures) ∙ j .if2 .left) l),
-    )
+    (c .stepped2 .ensures ∙ ap (λ (x : Core). steppedOf r x 0)
+    (left-is e (a .clock) (a .f) (a .body .now) r (s .request-answer .ensures) (l .left .ensures) (d .is-done .ensures)))
 
 returns-3 : tie.Need-returns-3
 returns-3 c =
     let w = c .before .before .before in
-    let f = w .before .before in
+    let h = w .before .before in
+    let f = h .before in
     let b = f .before .before in
     let j = b .before in
     let k = j .before in
@@ -116,21 +96,27 @@ returns-3 c =
     let d = l .before in
     let i = d .before in
     let s = i .before .before in
-    let a = s .before .before .before .args in
+    let t = s .before .before .before in
+    let a = t .args in
     let e = bare (a .e) in
+    let x = a .body .now in
     let r = s .request-answer .result in
-    let g : f .reply-fields .result ≡ replyFields e (a .f) (isDone r && isBusy e (a .f .command)) (isEnded r) =
+    let kept = sym (i .before .is-dropped .ensures) ∙ i .if1 .left in
+    let other = sym (k .is .ensures) ∙ j .if2 .left in
+    let next = leaves e (a .clock) (a .f) x r (s .request-answer .ensures) in
+    let g = replyFields e (a .f) (isDone r && isBusy e (a .f .command)) (isEnded r) in
+    let fields : f .reply-fields .result ≡ g =
     f .reply-fields .ensures
     ∙ (λ n. replyFields e (a .f) (d .is-done .ensures n && b .is-busy .ensures n) (f .before .is-ended .ensures n)) in
-    loud-step (a .out .now) (takeRequest e (a .clock) (a .f) (a .body .now)) r
-    (leaves e (a .clock) (a .f) (a .body .now) r (s .request-answer .ensures)) (f .reply-fields .result) (a .body .now)
-    (answered-is e (a .clock) (a .f) (a .body .now) r (s .request-answer .ensures) false
-    (sym (i .before .is-dropped .ensures) ∙ i .if1 .left) (sym (k .is .ensures) ∙ j .if2 .left)
-    ∙ ap (λ (x : Fields). outcome r (leaves e (a .clock) (a .f) (a .body .now) r (s .request-answer .ensures))
-    (frame x (a .body .now))) (sym g))
-    (w .write-whole .ensures)
-    (c .stepped3 .ensures ∙ ap (λ (x : Core). steppedOf r x (w .write-whole .result)) (l .left .ensures
-    ∙ ap (λ (b : Bool). coreOf (cond b (takenOf e (a .clock) (a .f)) (endedBy e (a .f .timestamp)))) (d .is-done .ensures)))
+    let n = request-width e (a .f) x (rw (← s .request-answer .ensures) kept) in
+    loud-step (a .out .now) (takeRequest e (a .clock) (a .f) x) r next g x
+    (answered-is e (a .clock) (a .f) x r (s .request-answer .ensures) false kept other)
+    (whole g x (a .out .now) (t .pre .0)
+    (reply-writable e (a .clock) (a .f) (isDone r) (isEnded r) (length x) (t .pre .1) other
+    (rw n (setup-length (a .e .settings) (a .f .command))))
+    (rw (h .head-of .ensures, fields) at (w .write-whole .ensures)))
+    (c .stepped3 .ensures ∙ ap (λ (y : Core). steppedOf r y (w .write-whole .result))
+    (left-is e (a .clock) (a .f) x r (s .request-answer .ensures) (l .left .ensures) (d .is-done .ensures)))
 
 pub take-request-spec : {M : Type 1} → statement M
 take-request-spec =
@@ -148,7 +134,8 @@ take-request-spec =
     (λ c κs. search needs)
     (λ c κs. search needs)
     (λ c κs. search needs)
-    write-whole-requires
+    (λ c κs. search needs)
+    (λ c κs. search needs)
     (λ c κs. search needs)
     (λ c. search needs)
     returns-3)

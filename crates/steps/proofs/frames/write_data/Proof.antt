@@ -9,17 +9,14 @@ slice-aggregate-write-whole : tie.Need-slice-aggregate-write-whole
 slice-aggregate-write-whole c =
     let s = c .before .before .before in
     let d = s .args .carried in
-    sym (length-take-le (d .length) (d .bytes) (s .pre .1))
-
-write-whole-requires : tie.Need-write-whole-requires
-write-whole-requires c κs = let p = c .before .before .before .before .pre in (p .0, p .2)
+    sym (length-take-le (d .length) (d .bytes) (s .pre))
 
 pub write-data-spec : {M : Type 1} → statement M
 write-data-spec =
     tie.close
     (tie.spec
-    (λ c. c .before .before .pre .1)
+    (λ c. search needs)
     slice-aggregate-write-whole
-    write-whole-requires
+    (λ c κs. search needs)
     (λ c. search needs)
     (λ c. c .before .before .write-whole .ensures))

@@ -2,7 +2,7 @@
 use borrow.Author.Needs.{needs}
 use mathlib.Core.Path.{_≡_}
 use Rattle.steps.proofs.Outcomes.{short, quiet, loud}
-use Rattle.steps.proofs.Whole.{disconnect-writable}
+use Rattle.steps.proofs.Whole.{whole, disconnect-writable}
 use Rattle.transitions.specs.ByCall.{stoppedOf}
 use Rattle.steps.specs.Calls.{outcome, stopOf}
 use Rattle.steps.specs.Frames.{nothing, frame, setupData, disconnectFields}
@@ -38,29 +38,26 @@ returns-3 c =
     quiet (a .out .now) (bare (a .e)) (stopOf (bare (a .e)) (a .clock)) (s .before .if1 .left) Done (stoppedOf (bare (a .e)) (a .clock)) q
     (rw (← c .before .stopped .ensures) (c .stepped3 .ensures))
 
-write-data-requires : tie.Need-write-data-requires
-write-data-requires c κs =
-    let f = c .before in
-    let d = f .before .setup-data .ensures in
-    let i = f .before .before .before .before .before .before .before in
-    let a = i .before .before .args in
-    (i .if1 .left, d .fits, rw (f .disconnect-fields .ensures, d .holds) (disconnect-writable (bare (a .e)) (a .clock)))
-
 returns-4 : tie.Need-returns-4
 returns-4 c =
     let w = c .before .before .before .before in
-    let f = w .before .before in
+    let h = w .before .before in
+    let f = h .before in
     let t = f .before .before .before in
     let d = t .before .before in
     let s = d .before in
     let a = s .before .before .before .args in
-    let q : stopOf (bare (a .e)) (a .clock)
-    ≡ outcome Done (stoppedOf (bare (a .e)) (a .clock))
-    (frame (disconnectFields (bare (a .e)) (a .clock)) (setupData (a .e .settings) K.Disconnect)) =
+    let e = bare (a .e) in
+    let b = setupData (a .e .settings) K.Disconnect in
+    let x = stoppedOf e (a .clock) in
+    let g = disconnectFields e (a .clock) in
+    let room = s .before .if1 .left in
+    let q : stopOf e (a .clock) ≡ outcome Done x (frame g b) =
     rw (← s .stop-answer .ensures, ← d .is-dropped .ensures, t .before .if2 .left, t .if3 .left) in
-    loud (a .out .now) (bare (a .e)) (stopOf (bare (a .e)) (a .clock)) (s .before .if1 .left) Done (stoppedOf (bare (a .e)) (a .clock))
-    (disconnectFields (bare (a .e)) (a .clock)) (setupData (a .e .settings) K.Disconnect) q
-    (rw (f .disconnect-fields .ensures, f .before .setup-data .ensures .holds) at (w .write-data .ensures))
+    loud (a .out .now) e (stopOf e (a .clock)) room Done x g b q
+    (whole g b (a .out .now) room (disconnect-writable e (a .clock))
+    (rw (h .head-of .ensures, f .disconnect-fields .ensures, f .before .setup-data .ensures .holds)
+    at (w .write-data .ensures)))
     (rw (← c .before .stopped2 .ensures) (c .stepped4 .ensures))
 
 pub stop-spec : {M : Type 1} → statement M
@@ -78,7 +75,8 @@ stop-spec =
     returns-3
     (λ c κs. search needs)
     (λ c κs. search needs)
-    write-data-requires
+    (λ c κs. search needs)
+    (λ c κs. c .before .before .before .setup-data .ensures .fits)
     (λ c κs. search needs)
     (λ c κs. search needs)
     (λ c. search needs)
