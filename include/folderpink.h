@@ -5,23 +5,23 @@
  * Link with libgateway.a (rt staticlib gateway), for folderpink_check_frame also with libframe.a
  * (rt staticlib frame). They need memcpy, and nothing else: no call at start-up, no heap, no
  * input or output. A call always returns and keeps nothing between calls: all that a gateway
- * remembers is in the records and the gateway value that the caller holds. So two gateways may
- * be called at the same time from two threads.
+ * remembers is in the records and in the struct folderpink_call that the caller holds. So two
+ * gateways may be called at the same time from two threads.
  *
  * In every call, the caller sees to it that
  * - a pointer and the length after it are readable memory of so many elements (records, words or
- *   bytes), writable where the pointer is not to const, that nobody else writes during the call,
- *   nor reads where it is writable;
+ *   bytes), and the call's pointer is to one struct; writable where the pointer is not to const;
+ *   nobody else writes it during the call, nor reads it where it is writable;
  * - no two of them overlap;
- * - records are aligned to 8 bytes and lists to 4; bytes need no alignment;
+ * - calls and records are aligned to 8 bytes and lists to 4; bytes need no alignment;
  * - no pointer is null, also where the length is 0;
  * - FOLDERPINK_STACK bytes of stack are left.
  *
  * Between the calls on a gateway, the caller sees to it that
  * - the records are lent whole each time, and as the last call left them: nobody else writes them;
- * - the gateway value of the last answer, refused or not, goes into the next call.
- * What the link promises of a shown value counts on this. Reading the records between calls is
- * free.
+ * - call.gateway, which each call writes, refused or not, goes into the next call as it was left.
+ * What the link promises of a shown value counts on this. Reading the records and the gateway
+ * between calls is free.
  *
  * Every call answers, whatever the lengths and contents: a length that does not suit is refused
  * by a number.
@@ -192,22 +192,25 @@ struct folderpink_gateway {
     size_t count;  /* the size of the table */
 };
 
-/* What a call is asked with. */
+/*
+ * What a call is asked with. The caller sets clock, entry and notready as each call needs them;
+ * they stay. gateway is the library's, from folderpink_load on: each call leaves in it what the
+ * next one needs.
+ */
 struct folderpink_call {
-    struct folderpink_gateway gateway; /* of the last answer */
+    struct folderpink_gateway gateway;
     uint64_t clock;                    /* the caller's clock reading */
     size_t entry;                      /* the connection, from 0 on; deliver does not look at it */
     uint8_t notready;                  /* a flag, of set_not_ready alone */
 };
 
 /* What a call answers. */
-struct folderpink_called {
-    struct folderpink_gateway gateway; /* for the next call */
-    size_t count;                      /* how many bytes it wrote at the start of the output */
-    size_t entry;                      /* the connection, where named is set, else 0 */
-    uint8_t named;                     /* a flag, 0 or 1 */
-    uint8_t number;                    /* one of folderpink_number */
-    uint8_t failsafe;                  /* 1: a show without a value, its bytes are zeros; else 0 */
+struct folderpink_told {
+    size_t count;     /* how many bytes it wrote at the start of the output */
+    size_t entry;     /* the connection, where named is set, else 0 */
+    uint8_t named;    /* a flag, 0 or 1 */
+    uint8_t number;   /* one of folderpink_number */
+    uint8_t failsafe; /* 1: a show without a value, its bytes are zeros; else 0 */
 };
 
 /*
@@ -222,53 +225,56 @@ struct folderpink_called {
  *
  * Done, the list's connections are in the first records, all in Close; the records before may
  * have held anything, zeros for example. Refused (18, or 2 for too few records), the records stay
- * and the table is of no connections. Records past the table stay in every call.
+ * and the table is of no connections. Records past the table stay in every call. Of the call
+ * nothing is looked at, and the gateway is set.
  */
-struct folderpink_called folderpink_load(struct folderpink_record *records, size_t records_length,
-                                         const uint32_t *list, size_t list_length);
+struct folderpink_told folderpink_load(struct folderpink_call *call,
+                                       struct folderpink_record *records, size_t records_length,
+                                       const uint32_t *list, size_t list_length);
 
 /* A master leaves Close: its next sends write the setup requests. */
-struct folderpink_called folderpink_start(struct folderpink_record *records, size_t records_length,
-                                          struct folderpink_call call);
+struct folderpink_told folderpink_start(struct folderpink_call *call,
+                                        struct folderpink_record *records, size_t records_length);
 
 /* From Terminate to Close. Timestamps are remembered. */
-struct folderpink_called folderpink_restart(struct folderpink_record *records,
-                                            size_t records_length, struct folderpink_call call);
+struct folderpink_told folderpink_restart(struct folderpink_call *call,
+                                          struct folderpink_record *records, size_t records_length);
 
 /* A slave's user says that the station is not ready (call.notready set), or ready again. */
-struct folderpink_called folderpink_set_not_ready(struct folderpink_record *records,
-                                                  size_t records_length,
-                                                  struct folderpink_call call);
+struct folderpink_told folderpink_set_not_ready(struct folderpink_call *call,
+                                                struct folderpink_record *records,
+                                                size_t records_length);
 
 /* To Terminate, from any state but Close and Terminate; a master's writes S-Disconnect. */
-struct folderpink_called folderpink_stop(struct folderpink_record *records, size_t records_length,
-                                         struct folderpink_call call, uint8_t *out,
-                                         size_t out_length);
+struct folderpink_told folderpink_stop(struct folderpink_call *call,
+                                       struct folderpink_record *records, size_t records_length,
+                                       uint8_t *out, size_t out_length);
 
 /*
  * Writes the last value accepted in this Refresh, 4 bytes a word; or, with none or outside
  * Refresh, zeros of the same width and the mark failsafe.
  */
-struct folderpink_called folderpink_show(struct folderpink_record *records, size_t records_length,
-                                         struct folderpink_call call, uint8_t *out,
-                                         size_t out_length);
+struct folderpink_told folderpink_show(struct folderpink_call *call,
+                                       struct folderpink_record *records, size_t records_length,
+                                       uint8_t *out, size_t out_length);
 
 /*
  * Writes the frame to be sent: in Refresh S-Refresh with the value (4 x M bytes of a master, 4 x S
  * of a slave), before it a master's next setup request, whatever value is lent.
  */
-struct folderpink_called folderpink_send(struct folderpink_record *records, size_t records_length,
-                                         struct folderpink_call call, const uint8_t *value,
-                                         size_t value_length, uint8_t *out, size_t out_length);
+struct folderpink_told folderpink_send(struct folderpink_call *call,
+                                       struct folderpink_record *records, size_t records_length,
+                                       const uint8_t *value, size_t value_length, uint8_t *out,
+                                       size_t out_length);
 
 /*
  * Takes what a cycle of the bus brought: a frame, or 0 bytes for nothing, which takes the clock
  * step alone. A slave's reply is written to the output, to be sent.
  */
-struct folderpink_called folderpink_deliver(struct folderpink_record *records,
-                                            size_t records_length, struct folderpink_call call,
-                                            const uint8_t *bytes, size_t bytes_length, uint8_t *out,
-                                            size_t out_length);
+struct folderpink_told folderpink_deliver(struct folderpink_call *call,
+                                          struct folderpink_record *records, size_t records_length,
+                                          const uint8_t *bytes, size_t bytes_length, uint8_t *out,
+                                          size_t out_length);
 
 /*
  * The frame check alone: 0 for a sound frame, or 4 to 7. Whether the frame is due, and for whom,
@@ -331,14 +337,13 @@ FOLDERPINK_LAYOUT(offsetof(struct folderpink_call, clock) == 16);
 FOLDERPINK_LAYOUT(offsetof(struct folderpink_call, entry) == 24);
 FOLDERPINK_LAYOUT(offsetof(struct folderpink_call, notready) == 32);
 
-FOLDERPINK_LAYOUT(sizeof(struct folderpink_called) == 40);
-FOLDERPINK_LAYOUT(FOLDERPINK_ALIGN(struct folderpink_called) == 8);
-FOLDERPINK_LAYOUT(offsetof(struct folderpink_called, gateway) == 0);
-FOLDERPINK_LAYOUT(offsetof(struct folderpink_called, count) == 16);
-FOLDERPINK_LAYOUT(offsetof(struct folderpink_called, entry) == 24);
-FOLDERPINK_LAYOUT(offsetof(struct folderpink_called, named) == 32);
-FOLDERPINK_LAYOUT(offsetof(struct folderpink_called, number) == 33);
-FOLDERPINK_LAYOUT(offsetof(struct folderpink_called, failsafe) == 34);
+FOLDERPINK_LAYOUT(sizeof(struct folderpink_told) == 24);
+FOLDERPINK_LAYOUT(FOLDERPINK_ALIGN(struct folderpink_told) == 8);
+FOLDERPINK_LAYOUT(offsetof(struct folderpink_told, count) == 0);
+FOLDERPINK_LAYOUT(offsetof(struct folderpink_told, entry) == 8);
+FOLDERPINK_LAYOUT(offsetof(struct folderpink_told, named) == 16);
+FOLDERPINK_LAYOUT(offsetof(struct folderpink_told, number) == 17);
+FOLDERPINK_LAYOUT(offsetof(struct folderpink_told, failsafe) == 18);
 
 #undef FOLDERPINK_LAYOUT
 #undef FOLDERPINK_ALIGN

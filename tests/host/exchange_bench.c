@@ -76,63 +76,61 @@ static void stop(const char *reason)
 static struct {
     struct folderpink_record records[FOLDERPINK_CONNECTIONS_MAX];
     size_t lent;
-    struct folderpink_gateway gateway;
+    struct folderpink_call call;
 } product_ends[2];
 
-INLINE struct folderpink_call product_call(enum end end, uint64_t clock, size_t n)
+INLINE struct folderpink_call *product_call(enum end end, uint64_t clock, size_t n)
 {
-    return (struct folderpink_call){
-        .gateway = product_ends[end].gateway,
-        .clock = clock,
-        .entry = n,
-    };
+    struct folderpink_call *call = &product_ends[end].call;
+
+    call->clock = clock;
+    call->entry = n;
+    return call;
 }
 
-INLINE struct answer product_answer(enum end end, struct folderpink_called called)
+INLINE struct answer product_answer(struct folderpink_told told)
 {
-    product_ends[end].gateway = called.gateway;
-    return (struct answer){called.number, called.count, called.failsafe != 0};
+    return (struct answer){told.number, told.count, told.failsafe != 0};
 }
 
 static void product_load(enum end end, size_t connections, const uint32_t *list)
 {
-    struct folderpink_called called;
+    struct folderpink_told told;
 
     product_ends[end].lent = connections;
-    called = folderpink_load(product_ends[end].records, connections, list, 7 * connections);
-    if (called.number != FOLDERPINK_DONE) {
+    told = folderpink_load(&product_ends[end].call, product_ends[end].records, connections, list,
+                           7 * connections);
+    if (told.number != FOLDERPINK_DONE) {
         stop("the list was refused");
     }
-    product_ends[end].gateway = called.gateway;
 }
 
 static struct answer product_start(enum end end, uint64_t clock, size_t n)
 {
-    return product_answer(end, folderpink_start(product_ends[end].records, product_ends[end].lent,
-                                                product_call(end, clock, n)));
+    return product_answer(folderpink_start(product_call(end, clock, n), product_ends[end].records,
+                                           product_ends[end].lent));
 }
 
 INLINE struct answer product_send(enum end end, uint64_t clock, size_t n, const uint8_t *value,
                                   size_t length, uint8_t *out)
 {
-    return product_answer(end, folderpink_send(product_ends[end].records, product_ends[end].lent,
-                                               product_call(end, clock, n), value, length, out,
-                                               FOLDERPINK_FRAME_MAX));
+    return product_answer(folderpink_send(product_call(end, clock, n), product_ends[end].records,
+                                          product_ends[end].lent, value, length, out,
+                                          FOLDERPINK_FRAME_MAX));
 }
 
 INLINE struct answer product_deliver(enum end end, uint64_t clock, const uint8_t *bytes,
                                      size_t length, uint8_t *out)
 {
-    return product_answer(end, folderpink_deliver(product_ends[end].records, product_ends[end].lent,
-                                                  product_call(end, clock, 0), bytes, length, out,
-                                                  FOLDERPINK_FRAME_MAX));
+    return product_answer(folderpink_deliver(product_call(end, clock, 0), product_ends[end].records,
+                                             product_ends[end].lent, bytes, length, out,
+                                             FOLDERPINK_FRAME_MAX));
 }
 
 INLINE struct answer product_show(enum end end, uint64_t clock, size_t n, uint8_t *out)
 {
-    return product_answer(end,
-                          folderpink_show(product_ends[end].records, product_ends[end].lent,
-                                          product_call(end, clock, n), out, FOLDERPINK_FRAME_MAX));
+    return product_answer(folderpink_show(product_call(end, clock, n), product_ends[end].records,
+                                          product_ends[end].lent, out, FOLDERPINK_FRAME_MAX));
 }
 
 static const struct library product = {

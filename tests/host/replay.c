@@ -41,20 +41,19 @@ enum kind {
     CHECK,
 };
 
-/* The line's call: what it is asked with, and what it answers. */
+/* The line's call: what it is asked with beside the clock and the entry, and what it answers. */
 static struct {
     enum kind kind;
-    struct folderpink_call call;
     uint32_t list[LIST_MAX];
     uint8_t bytes[LINE_MAX_LENGTH / 2];
     size_t length;
-    struct folderpink_called called;
+    struct folderpink_told told;
     uint8_t number;
 } now;
 
 /* All that stays between calls. */
 static struct folderpink_record records[RECORDS_MAX];
-static struct folderpink_gateway gateway;
+static struct folderpink_call call;
 static size_t lent = FOLDERPINK_CONNECTIONS_MAX;
 static size_t room = FOLDERPINK_OUTPUT_MIN;
 static uint8_t output[ROOM_MAX];
@@ -181,8 +180,8 @@ static bool read_entry_call(struct text word, struct text rest)
     const struct text entry = kind == SEND ? next_word(&rest) : rest;
 
     now.kind = kind;
-    return kind != NOTHING && read_number(clock, UINT64_MAX, &now.call.clock) &&
-           read_number(entry, UINT32_MAX, &now.call.entry) &&
+    return kind != NOTHING && read_number(clock, UINT64_MAX, &call.clock) &&
+           read_number(entry, UINT32_MAX, &call.entry) &&
            (kind != SEND || read_bytes(rest, sizeof now.bytes));
 }
 
@@ -191,8 +190,8 @@ static bool read_deliver(struct text rest)
     const struct text clock = next_word(&rest);
 
     now.kind = DELIVER;
-    now.call.entry = 0;
-    return read_number(clock, UINT64_MAX, &now.call.clock) && read_bytes(rest, FRAME_BYTES_MAX);
+    call.entry = 0;
+    return read_number(clock, UINT64_MAX, &call.clock) && read_bytes(rest, FRAME_BYTES_MAX);
 }
 
 static bool set(size_t *number, struct text word, uint64_t most)
@@ -245,30 +244,29 @@ static void make_call(void)
     case NOTHING:
         break;
     case LOAD:
-        now.called = folderpink_load(records, lent, now.list, now.length);
+        now.told = folderpink_load(&call, records, lent, now.list, now.length);
         break;
     case START:
-        now.called = folderpink_start(records, lent, now.call);
+        now.told = folderpink_start(&call, records, lent);
         break;
     case RESTART:
-        now.called = folderpink_restart(records, lent, now.call);
+        now.told = folderpink_restart(&call, records, lent);
         break;
     case NOT_READY:
     case READY:
-        now.called = folderpink_set_not_ready(records, lent, now.call);
+        now.told = folderpink_set_not_ready(&call, records, lent);
         break;
     case STOP:
-        now.called = folderpink_stop(records, lent, now.call, output, room);
+        now.told = folderpink_stop(&call, records, lent, output, room);
         break;
     case SHOW:
-        now.called = folderpink_show(records, lent, now.call, output, room);
+        now.told = folderpink_show(&call, records, lent, output, room);
         break;
     case SEND:
-        now.called = folderpink_send(records, lent, now.call, now.bytes, now.length, output, room);
+        now.told = folderpink_send(&call, records, lent, now.bytes, now.length, output, room);
         break;
     case DELIVER:
-        now.called =
-            folderpink_deliver(records, lent, now.call, now.bytes, now.length, output, room);
+        now.told = folderpink_deliver(&call, records, lent, now.bytes, now.length, output, room);
         break;
     case CHECK:
         now.number = folderpink_check_frame(now.bytes, now.length);
@@ -276,9 +274,15 @@ static void make_call(void)
     }
 }
 
-/* Whether a byte past those written was changed. */
+/* What the last call was asked with. */
+static struct folderpink_call asked;
+
+/* Whether a byte past those written was changed, or more of the call than its gateway. */
 static bool is_dirty(size_t count)
 {
+    if (call.clock != asked.clock || call.entry != asked.entry || call.notready != asked.notready) {
+        return true;
+    }
     for (size_t i = count; i < sizeof output; i++) {
         if (output[i] != FILL) {
             return true;
@@ -287,19 +291,19 @@ static bool is_dirty(size_t count)
     return false;
 }
 
-static void print_called(const struct folderpink_called *called)
+static void print_told(const struct folderpink_told *told)
 {
-    printf("%u ", (unsigned)called->number);
-    if (called->named) {
-        printf("%zu", called->entry);
+    printf("%u ", (unsigned)told->number);
+    if (told->named) {
+        printf("%zu", told->entry);
     } else {
         printf("-");
     }
-    printf(" %zu %u ", called->count, (unsigned)called->failsafe);
-    for (size_t i = 0; i < called->count && i < sizeof output; i++) {
+    printf(" %zu %u ", told->count, (unsigned)told->failsafe);
+    for (size_t i = 0; i < told->count && i < sizeof output; i++) {
         printf("%02x", output[i]);
     }
-    printf("%s%s\n", called->count == 0 ? "-" : "", is_dirty(called->count) ? " DIRTY" : "");
+    printf("%s%s\n", told->count == 0 ? "-" : "", is_dirty(told->count) ? " DIRTY" : "");
 }
 
 /* Makes the call on a painted stack, and prints what it answered. */
@@ -311,16 +315,15 @@ static void run_call(void)
         return;
     }
     memset(output, FILL, sizeof output);
-    now.call.gateway = gateway;
-    now.call.notready = now.kind == NOT_READY;
+    call.notready = now.kind == NOT_READY;
+    asked = call;
     used = stack_used(make_call);
     stack_most = used > stack_most ? used : stack_most;
     if (now.kind == CHECK) {
         printf("%u\n", (unsigned)now.number);
         return;
     }
-    gateway = now.called.gateway;
-    print_called(&now.called);
+    print_told(&now.told);
 }
 
 /* Reads a line without its newline, of which one byte past the longest is kept; false at the end.
