@@ -1,7 +1,8 @@
 /*
  * Benchmark of folderpink_check_frame beside the reference: nanoseconds for one sound frame
  * of the shortest and of the longest length. The two are timed by turns in one run,
- * and the best round of each is printed.
+ * and the best round of each is printed. Fails where the shortest frame takes so long that the
+ * check word's table must have been copied at each call, which no proof would see.
  */
 #define _POSIX_C_SOURCE 199309L
 
@@ -14,6 +15,9 @@
 #include "folderpink.h"
 #include "reference.h"
 #include "subpdu.h"
+
+/* With the table copied at each call the check took twice the reference's time; without, as long. */
+#define SHORTEST_RATIO_MAX 1.5
 
 /* Long enough to outlast a phase in which the core is shared with other work. */
 #define NS_PER_LENGTH 2e9
@@ -75,7 +79,8 @@ static double smaller(double a, double b)
     return a < b ? a : b;
 }
 
-static void bench(size_t length)
+/* Prints the two times; returns the product's in the reference's. */
+static double bench(size_t length)
 {
     const double start = now_ns();
     double product = NS_PER_LENGTH;
@@ -90,12 +95,20 @@ static void bench(size_t length)
     }
     printf("%zu bytes: product %.1f ns, C %.1f ns, ratio %.2f\n", length, product, reference,
            product / reference);
+    return product / reference;
 }
 
 int main(void)
 {
+    double shortest;
+
     reference_init();
-    bench(FOLDERPINK_FRAME_MIN);
+    shortest = bench(FOLDERPINK_FRAME_MIN);
     bench(FOLDERPINK_FRAME_MAX);
+    if (shortest > SHORTEST_RATIO_MAX) {
+        fprintf(stderr, "check_frame_bench: ratio above %.1f: is the check word's table copied?\n",
+                SHORTEST_RATIO_MAX);
+        return EXIT_FAILURE;
+    }
     return EXIT_SUCCESS;
 }

@@ -2,6 +2,8 @@
  * Benchmark of one refresh exchange through folderpink.h beside the same in plain C: nanoseconds
  * of processor time with 1, 8 and 64 connections in Refresh at both ends, at 1 and 25 words.
  * The two are timed by turns in one run, the set-up apart, and the best round of each is taken.
+ * Fails where an exchange takes so long that a record, the table of records or the check word's
+ * table must be copied in a call again, which no proof would see.
  * Usage: exchange_bench [test]; test: no timing, both must show the same values.
  */
 #define _POSIX_C_SOURCE 199309L
@@ -24,6 +26,9 @@
 #define ROUNDS 400
 #define EXCHANGES_PER_ROUND 1920
 #define EXCHANGES_TESTED 640
+
+/* With a record copied once more in each call an exchange of 1 word took 1.9 times C's. */
+#define RATIO_MAX 1.75
 
 /* So that the calls of a library are direct ones, and what joins them to a line costs nothing. */
 #define INLINE static inline __attribute__((always_inline))
@@ -351,6 +356,8 @@ static double smaller(double a, double b)
     return a < b ? a : b;
 }
 
+static bool is_slow;
+
 static void bench(size_t connections, uint32_t words)
 {
     double product_ns = 1e12;
@@ -364,6 +371,7 @@ static void bench(size_t connections, uint32_t words)
     }
     printf("exchange, connections %zu, words %u: product %.0f ns, C %.0f ns, ratio %.2f\n",
            connections, words, product_ns, reference_ns, product_ns / reference_ns);
+    is_slow = is_slow || product_ns > RATIO_MAX * reference_ns;
 }
 
 int main(int argc, char **argv)
@@ -380,6 +388,9 @@ int main(int argc, char **argv)
         for (size_t j = 0; j < COUNT_OF(words); j++) {
             (tested ? test : bench)(connections[i], words[j]);
         }
+    }
+    if (is_slow) {
+        stop("a ratio is above 1.75: is a record or a table copied?");
     }
     return EXIT_SUCCESS;
 }
