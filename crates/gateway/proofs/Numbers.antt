@@ -11,6 +11,7 @@ use Rattle.endpoint.specs.Answers.{numberOf}
 use Rattle.settings.specs.Lists.{countOf, isList}
 use Rattle.records.specs.declared.Record.{Record}
 use Rattle.gateway.specs.declared.Called.{Called}
+use Rattle.gateway.specs.declared.Told.{Told}
 use Rattle.gateway.specs.Loading.{Loaded, loadedOf}
 use Rattle.gateway.specs.Numbers.{Numbers}
 
@@ -25,4 +26,6 @@ numbers = record {
   loaded = λ ws rs. of-answer (isList ws) (ltb (length rs) (countOf ws)) _ _ _ refl refl refl;
   plain = λ r rs c s. ap (λ (x : Called). x .number) (s .told);
   lent = λ r rs out out′ c s. ap (λ (x : Called). x .number) (s .told);
+  plain-told = λ r k k′ rs t s. ap (λ (x : Told). x .number) (s .told);
+  lent-told = λ r k k′ rs out out′ t s. ap (λ (x : Told). x .number) (s .told);
 }

@@ -9,9 +9,12 @@ use lib.ListN.{length}
 use Rattle.endpoint.specs.Answers.{numberOf}
 use Rattle.settings.specs.Lists.{countOf, isList}
 use Rattle.records.specs.declared.Record.{Record}
+use Rattle.gateway.specs.declared.Call.{Call}
 use Rattle.gateway.specs.declared.Called.{Called}
+use Rattle.gateway.specs.declared.Told.{Told}
 use Rattle.gateway.specs.Loading.{loadedOf}
 use Rattle.gateway.specs.Calls.{Result, CallSays, OutputSays}
+use Rattle.gateway.specs.Exports.{LentCallSays, LentOutputSays}
 
 abbrev pub numberIn : Result → ℕ
 numberIn r = numberOf (r .answer)
@@ -25,3 +28,8 @@ pub record Numbers : Type 0 where
   -- send, stop, show, deliver
   pub lent : (r : Result) (rs : List Record) (out out′ : List ℕ) (c : Called) → OutputSays r rs out out′ c
       → c .number ≡ numberIn r
+  -- and what C is told of each
+  pub plain-told : (r : Result) (k k′ : Call) (rs : List Record) (t : Told) → LentCallSays r k k′ rs t
+      → t .number ≡ numberIn r
+  pub lent-told : (r : Result) (k k′ : Call) (rs : List Record) (out out′ : List ℕ) (t : Told)
+      → LentOutputSays r k k′ rs out out′ t → t .number ≡ numberIn r
