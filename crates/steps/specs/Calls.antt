@@ -53,11 +53,16 @@ setNotReadyOf e b =
     cond (e .settings .slave) (outcome Done (withNotReady b e) nothing) (dropped e (Dropped R.Turn))
 
 -- ---- send: a master's next request in setup if none is pending; S-Refresh in Refresh
-abbrev pub sendFaults : Endpoint → ℕ → ℕ → Faults
-sendFaults e t width =
+-- of a send with this timestamp
+abbrev pub sendFaultsAt : Endpoint → ℕ → ℕ → Faults
+sendFaultsAt e stamp width =
     callFaults (not (isState (e .state) Refresh || mayRequest e))
     (isState (e .state) Refresh && not (eqb width (sendWidth (e .settings)))) (mayRequest e && isExhausted e)
-    (not (isAbove (e .timestamps .sent) (timeOf e t)))
+    (not (isAbove (e .timestamps .sent) stamp))
+
+-- the same, with the endpoint's time
+abbrev pub sendFaults : Endpoint → ℕ → ℕ → Faults
+sendFaults e t width = sendFaultsAt e (timeOf e t) width
 
 -- what a send that is done comes to
 abbrev pub sentOf : Endpoint → ℕ → List ℕ → Outcome
@@ -71,10 +76,15 @@ sendOf e t value =
     (refused e (firstOf (sendFaults e t (length value))))
 
 -- ---- stop: from any state but Close and Terminate; a master's writes S-Disconnect
-abbrev pub stopFaults : Endpoint → ℕ → Faults
-stopFaults e t =
+-- of a stop with this timestamp
+abbrev pub stopFaultsAt : Endpoint → ℕ → Faults
+stopFaultsAt e stamp =
     callFaults (isState (e .state) Close || isState (e .state) Terminate) false false
-    (not (e .settings .slave) && not (isAbove (e .timestamps .sent) (timeOf e t)))
+    (not (e .settings .slave) && not (isAbove (e .timestamps .sent) stamp))
+
+-- the same, with the endpoint's time
+abbrev pub stopFaults : Endpoint → ℕ → Faults
+stopFaults e t = stopFaultsAt e (timeOf e t)
 
 abbrev pub disconnectOf : Endpoint → ℕ → Written
 disconnectOf e t = cond (e .settings .slave) nothing

@@ -1,12 +1,14 @@
 // The frames that an endpoint writes: the data of setup requests, the width of values, and the fields of each frame.
 ghost use mathlib.Core.Path.{_≡_};
+ghost use mathlib.Core.Bool.{false};
+ghost use Rattle.endpoint.specs.Due.{requestDue};
 ghost use Rattle.endpoint.specs.Endpoint.{bare};
 ghost use mathlib.Core.List.{_++_};
 ghost use Prim.Native.Nat.{_≤_};
 ghost use lib.ListN.{length};
 ghost use Rattle.words.specs.Words.{wordBytes};
 ghost use Rattle.steps.specs.Frames.{setupData, dueData, widthOf, sendWidth, showWidth, sentFields, baselineOf};
-ghost use Rattle.steps.specs.Frames.{requestFields, refreshFields, disconnectFields, replyFields};
+ghost use Rattle.steps.specs.Frames.{replyFields};
 ghost use Rattle.steps.specs.Says.{bytesIn, DataSays};
 ghost use Rattle.frame.specs.Writing.{HeadSays};
 use super::SetupData;
@@ -14,7 +16,6 @@ use endpoint::Core;
 use endpoint::Settings;
 use endpoint::due::request_due;
 use endpoint::time::passed;
-use endpoint::time::time_of;
 use frame::Command;
 use frame::Fields;
 use frame::Head;
@@ -103,7 +104,7 @@ pub(crate) fn show_width(s: Settings) -> usize
 }
 
 // A frame that is no reply; application tells the direction.
-fn sent_fields(
+pub(crate) fn sent_fields(
     command: Command,
     application: bool,
     connection: u32,
@@ -136,11 +137,12 @@ fn baseline_of(k: Command, clock: u64, measured: u64) -> u16
     0
 }
 
-pub(crate) fn request_fields(e: Core, clock: u64) -> Fields
-    ensures { λ r. ⌜ r ≡ requestFields (bare e) clock ⌝ }
+// The request due, with this timestamp.
+pub(crate) fn request_fields(e: Core, clock: u64, stamp: u64) -> Fields
+    ensures { λ r. ⌜ r ≡ sentFields (requestDue (bare e)) false (e .settings .connection) stamp
+        (baselineOf (requestDue (bare e)) clock (e .setup .measured)) ⌝ }
 {
     let k = request_due(e);
-    let stamp = time_of(e, clock);
     sent_fields(
         k,
         false,
@@ -148,26 +150,6 @@ pub(crate) fn request_fields(e: Core, clock: u64) -> Fields
         stamp,
         baseline_of(k, clock, e.setup.measured),
     )
-}
-
-pub(crate) fn refresh_fields(e: Core, clock: u64) -> Fields
-    ensures { λ r. ⌜ r ≡ refreshFields (bare e) clock ⌝ }
-{
-    let stamp = time_of(e, clock);
-    sent_fields(
-        Command::Refresh,
-        e.settings.slave,
-        e.settings.connection,
-        stamp,
-        0,
-    )
-}
-
-pub(crate) fn disconnect_fields(e: Core, clock: u64) -> Fields
-    ensures { λ r. ⌜ r ≡ disconnectFields (bare e) clock ⌝ }
-{
-    let stamp = time_of(e, clock);
-    sent_fields(Command::Disconnect, false, e.settings.connection, stamp, 0)
 }
 
 pub(crate) fn reply_fields(e: Core, f: Fields, busy: bool, error: bool) -> Fields

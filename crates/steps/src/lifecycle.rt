@@ -3,10 +3,10 @@ ghost use mathlib.Core.Path.{_≡_};
 ghost use Rattle.endpoint.specs.Endpoint.{bare};
 ghost use lib.ListN.{length};
 ghost use Rattle.endpoint.specs.Answers.{firstOf};
-ghost use Rattle.steps.specs.Calls.{refused, startOf, restartOf, stopFaults, stopOf};
+ghost use Rattle.steps.specs.Calls.{refused, startOf, restartOf, stopFaultsAt, stopOf};
 ghost use Rattle.steps.specs.Says.{steppedOf, plainStep, withRoom, StepSays};
 use super::Stepped;
-use super::frames::disconnect_fields;
+use super::frames::sent_fields;
 use super::frames::setup_data;
 use super::frames::write_data;
 use endpoint::Answer;
@@ -70,14 +70,13 @@ pub fn restart(e: Core) -> Stepped
     stepped(Answer::Dropped(Reason::Turn), e, 0)
 }
 
-fn stop_answer(e: Core, clock: u64) -> Answer
-    ensures { λ r. ⌜ r ≡ firstOf (stopFaults (bare e) clock) ⌝ }
+fn stop_answer(e: Core, stamp: u64) -> Answer
+    ensures { λ r. ⌜ r ≡ firstOf (stopFaultsAt (bare e) stamp) ⌝ }
 {
     let state = e.state;
     let timestamps = e.timestamps;
     let sent = timestamps.sent;
     let turn = is_state(state, State::Close) | is_state(state, State::Terminate);
-    let stamp = time_of(e, clock);
     let soon = !e.settings.slave & !is_above(sent, stamp);
     first_of(call_faults(turn, false, false, soon))
 }
@@ -90,15 +89,17 @@ pub fn stop(e: Core, clock: u64, out: &mut [u8]) -> Stepped
     if out.len() < LONGEST_FRAME {
         return stepped(Answer::Dropped(Reason::Buffer), e, 0);
     }
-    let answer = stop_answer(e, clock);
+    let stamp = time_of(e, clock);
+    let answer = stop_answer(e, stamp);
     if is_dropped(answer) {
         return stepped(answer, e, 0);
     }
     if e.settings.slave {
-        return stepped(Answer::Done, stopped(e, clock), 0);
+        return stepped(Answer::Done, stopped(e, stamp), 0);
     }
     let settings = e.settings;
     let data = setup_data(settings, Command::Disconnect);
-    let count = write_data(head_of(disconnect_fields(e, clock)), data, out);
-    stepped(Answer::Done, stopped(e, clock), count)
+    let fields = sent_fields(Command::Disconnect, false, e.settings.connection, stamp, 0);
+    let count = write_data(head_of(fields), data, out);
+    stepped(Answer::Done, stopped(e, stamp), count)
 }

@@ -3,13 +3,13 @@ ghost use mathlib.Core.Path.{_≡_};
 ghost use Rattle.endpoint.specs.Endpoint.{bare};
 ghost use lib.ListN.{length};
 ghost use Rattle.endpoint.specs.Answers.{firstOf};
-ghost use Rattle.steps.specs.Calls.{sendFaults, sendOf};
+ghost use Rattle.steps.specs.Calls.{sendFaultsAt, sendOf};
 ghost use Rattle.steps.specs.Says.{withRoom, StepSays};
 use super::Stepped;
 use super::frames::due_data;
-use super::frames::refresh_fields;
 use super::frames::request_fields;
 use super::frames::send_width;
+use super::frames::sent_fields;
 use super::frames::write_data;
 use super::frames::write_whole;
 use super::lifecycle::refused;
@@ -26,13 +26,14 @@ use endpoint::due::may_request;
 use endpoint::table::is_state;
 use endpoint::time::is_above;
 use endpoint::time::time_of;
+use endpoint::updates::with_sent;
+use frame::Command;
 use frame::LONGEST_FRAME;
 use frame::write::head_of;
-use transitions::by_call::refresh_sent;
 use transitions::by_call::requested;
 
-fn send_answer(e: Core, clock: u64, width: usize) -> Answer
-    ensures { λ r. ⌜ r ≡ firstOf (sendFaults (bare e) clock width) ⌝ }
+fn send_answer(e: Core, stamp: u64, width: usize) -> Answer
+    ensures { λ r. ⌜ r ≡ firstOf (sendFaultsAt (bare e) stamp width) ⌝ }
 {
     let state = e.state;
     let settings = e.settings;
@@ -42,7 +43,6 @@ fn send_answer(e: Core, clock: u64, width: usize) -> Answer
     let may = may_request(e);
     let exhausted = is_exhausted(e);
     let due = send_width(settings);
-    let stamp = time_of(e, clock);
     let above = is_above(sent, stamp);
     first_of(call_faults(
         !(refresh | may),
@@ -60,15 +60,23 @@ pub fn send(e: Core, clock: u64, value: &[u8], out: &mut [u8]) -> Stepped
     if out.len() < LONGEST_FRAME {
         return stepped(Answer::Dropped(Reason::Buffer), e, 0);
     }
-    let answer = send_answer(e, clock, value.len());
+    let stamp = time_of(e, clock);
+    let answer = send_answer(e, stamp, value.len());
     if !is_done(answer) {
         return refused(answer, e);
     }
     let state = e.state;
     if is_state(state, State::Refresh) {
-        let count = write_whole(head_of(refresh_fields(e, clock)), value, out);
-        return stepped(Answer::Done, refresh_sent(e, clock), count);
+        let fields = sent_fields(
+            Command::Refresh,
+            e.settings.slave,
+            e.settings.connection,
+            stamp,
+            0,
+        );
+        let count = write_whole(head_of(fields), value, out);
+        return stepped(Answer::Done, with_sent(stamp, e), count);
     }
-    let count = write_data(head_of(request_fields(e, clock)), due_data(e), out);
-    stepped(Answer::Done, requested(e, clock), count)
+    let count = write_data(head_of(request_fields(e, clock, stamp)), due_data(e), out);
+    stepped(Answer::Done, requested(e, clock, stamp), count)
 }

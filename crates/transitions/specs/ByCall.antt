@@ -32,18 +32,25 @@ restartedOf e = inState Close (holding noValue e)
 abbrev pub countedOf : Endpoint → Command → ℕ
 countedOf e k = cond (is k K.Disconnect) (e .setup .requests) ((e .setup .requests + 1) % 256)
 
--- send: a request
+-- send: a request with this timestamp
+abbrev pub requestedAt : Endpoint → ℕ → ℕ → Endpoint
+requestedAt e t stamp =
+    timedFrom t (withSent stamp (withRequests (countedOf e (requestDue e)) (withPending (Asked stamp) e)))
+
+-- the same, with the endpoint's time
 abbrev pub requestedOf : Endpoint → ℕ → Endpoint
-requestedOf e t =
-    timedFrom t (withSent (timeOf e t)
-    (withRequests (countedOf e (requestDue e)) (withPending (Asked (timeOf e t)) e)))
+requestedOf e t = requestedAt e t (timeOf e t)
 
 -- send: S-Refresh
 abbrev pub refreshSentOf : Endpoint → ℕ → Endpoint
 refreshSentOf e t = withSent (timeOf e t) e
 
--- stop; a master's has sent S-Disconnect
-abbrev pub stoppedOf : Endpoint → ℕ → Endpoint
-stoppedOf e t =
-    withTimestamps (cond (e .settings .slave) (e .timestamps) (withSent (timeOf e t) e .timestamps))
+-- stop; a master's has sent S-Disconnect with this timestamp
+abbrev pub stoppedAt : Endpoint → ℕ → Endpoint
+stoppedAt e stamp =
+    withTimestamps (cond (e .settings .slave) (e .timestamps) (withSent stamp e .timestamps))
     (withRequests (countedOf e K.Disconnect) (endedOf e))
+
+-- the same, with the endpoint's time
+abbrev pub stoppedOf : Endpoint → ℕ → Endpoint
+stoppedOf e t = stoppedAt e (timeOf e t)

@@ -2,8 +2,7 @@
 ghost use mathlib.Core.Path.{_≡_};
 ghost use Rattle.endpoint.specs.Endpoint.{bare, coreOf};
 ghost use Rattle.endpoint.specs.Updates.{withNotReady};
-ghost use Rattle.transitions.specs.ByCall.{freshOf, startedOf, restartedOf, countedOf, requestedOf};
-ghost use Rattle.transitions.specs.ByCall.{refreshSentOf, stoppedOf};
+ghost use Rattle.transitions.specs.ByCall.{freshOf, startedOf, restartedOf, countedOf, requestedAt, stoppedAt};
 use endpoint::Core;
 use endpoint::Pending;
 use endpoint::Settings;
@@ -14,7 +13,6 @@ use endpoint::Timestamp;
 use endpoint::Timestamps;
 use endpoint::due::request_due;
 use endpoint::time::ended;
-use endpoint::time::time_of;
 use endpoint::updates::in_state;
 use endpoint::updates::with_pending;
 use endpoint::updates::with_sent;
@@ -72,10 +70,10 @@ fn counted(e: Core, k: Command) -> u8
     std::num::wrapping_add_u8(e.setup.requests, 1)
 }
 
-pub fn requested(e: Core, clock: u64) -> Core
-    ensures { λ r. ⌜ r ≡ coreOf (requestedOf (bare e) clock) ⌝ }
+// A request with this timestamp has been sent.
+pub fn requested(e: Core, clock: u64, stamp: u64) -> Core
+    ensures { λ r. ⌜ r ≡ coreOf (requestedAt (bare e) clock stamp) ⌝ }
 {
-    let stamp = time_of(e, clock);
     let requests = counted(e, request_due(e));
     let mut next = with_sent(stamp, with_pending(Pending::Asked(stamp), e));
     next.since = clock;
@@ -83,15 +81,9 @@ pub fn requested(e: Core, clock: u64) -> Core
     next
 }
 
-pub fn refresh_sent(e: Core, clock: u64) -> Core
-    ensures { λ r. ⌜ r ≡ coreOf (refreshSentOf (bare e) clock) ⌝ }
-{
-    with_sent(time_of(e, clock), e)
-}
-
-// A master's stop has sent S-Disconnect.
-pub fn stopped(e: Core, clock: u64) -> Core
-    ensures { λ r. ⌜ r ≡ coreOf (stoppedOf (bare e) clock) ⌝ }
+// A master's stop has sent S-Disconnect with this timestamp.
+pub fn stopped(e: Core, stamp: u64) -> Core
+    ensures { λ r. ⌜ r ≡ coreOf (stoppedAt (bare e) stamp) ⌝ }
 {
     let requests = counted(e, Command::Disconnect);
     let mut next = ended(e);
@@ -99,7 +91,7 @@ pub fn stopped(e: Core, clock: u64) -> Core
     if e.settings.slave {
         return next;
     }
-    with_sent(time_of(e, clock), next)
+    with_sent(stamp, next)
 }
 
 pub fn with_not_ready(e: Core, notready: bool) -> Core

@@ -21,22 +21,26 @@ returns-2 : tie.Need-returns-2
 returns-2 c =
     let d = c .before .before in
     let s = d .before in
-    let a = s .before .before .before .args in
+    let stamp = s .before .time-of .ensures in
+    let a = s .before .before .before .before .args in
+    let e = bare (a .e) in
     let r = s .stop-answer .result in
-    let q : stopOf (bare (a .e)) (a .clock) ≡ outcome r (bare (a .e)) nothing =
-    rw (← s .stop-answer .ensures, ← d .is-dropped .ensures, c .before .if2 .taken) in
-    quiet (a .out .now) (bare (a .e)) (stopOf (bare (a .e)) (a .clock)) (s .before .if1 .left) r (bare (a .e)) q (c .stepped2 .ensures)
+    let q : stopOf e (a .clock) ≡ outcome r e nothing =
+    rw (← stamp, ← s .stop-answer .ensures, ← d .is-dropped .ensures, c .before .if2 .taken) in
+    quiet (a .out .now) e (stopOf e (a .clock)) (s .before .before .if1 .left) r e q (c .stepped2 .ensures)
 
 returns-3 : tie.Need-returns-3
 returns-3 c =
     let t = c .before .before in
     let d = t .before .before in
     let s = d .before in
-    let a = s .before .before .before .args in
-    let q : stopOf (bare (a .e)) (a .clock) ≡ outcome Done (stoppedOf (bare (a .e)) (a .clock)) nothing =
-    rw (← s .stop-answer .ensures, ← d .is-dropped .ensures, t .before .if2 .left, t .if3 .taken) in
-    quiet (a .out .now) (bare (a .e)) (stopOf (bare (a .e)) (a .clock)) (s .before .if1 .left) Done (stoppedOf (bare (a .e)) (a .clock)) q
-    (rw (← c .before .stopped .ensures) (c .stepped3 .ensures))
+    let stamp = s .before .time-of .ensures in
+    let a = s .before .before .before .before .args in
+    let e = bare (a .e) in
+    let q : stopOf e (a .clock) ≡ outcome Done (stoppedOf e (a .clock)) nothing =
+    rw (← stamp, ← s .stop-answer .ensures, ← d .is-dropped .ensures, t .before .if2 .left, t .if3 .taken) in
+    quiet (a .out .now) e (stopOf e (a .clock)) (s .before .before .if1 .left) Done (stoppedOf e (a .clock)) q
+    (rw (← stamp, ← c .before .stopped .ensures) (c .stepped3 .ensures))
 
 returns-4 : tie.Need-returns-4
 returns-4 c =
@@ -46,19 +50,20 @@ returns-4 c =
     let t = f .before .before .before in
     let d = t .before .before in
     let s = d .before in
-    let a = s .before .before .before .args in
+    let stamp = s .before .time-of .ensures in
+    let a = s .before .before .before .before .args in
     let e = bare (a .e) in
     let b = setupData (a .e .settings) K.Disconnect in
     let x = stoppedOf e (a .clock) in
     let g = disconnectFields e (a .clock) in
-    let room = s .before .if1 .left in
+    let room = s .before .before .if1 .left in
     let q : stopOf e (a .clock) ≡ outcome Done x (frame g b) =
-    rw (← s .stop-answer .ensures, ← d .is-dropped .ensures, t .before .if2 .left, t .if3 .left) in
+    rw (← stamp, ← s .stop-answer .ensures, ← d .is-dropped .ensures, t .before .if2 .left, t .if3 .left) in
     loud (a .out .now) e (stopOf e (a .clock)) room Done x g b q
     (whole g b (a .out .now) room (disconnect-writable e (a .clock))
-    (rw (h .head-of .ensures, f .disconnect-fields .ensures, f .before .setup-data .ensures .holds)
+    (rw (h .head-of .ensures, f .sent-fields .ensures, stamp, f .before .setup-data .ensures .holds)
     at (w .write-data .ensures)))
-    (rw (← c .before .stopped2 .ensures) (c .stepped4 .ensures))
+    (rw (← stamp, ← c .before .stopped2 .ensures) (c .stepped4 .ensures))
 
 pub stop-spec : {M : Type 1} → statement M
 stop-spec =
@@ -66,6 +71,7 @@ stop-spec =
     (tie.spec
     (λ c κs. search needs)
     returns
+    (λ c κs. search needs)
     (λ c κs. search needs)
     (λ c κs. search needs)
     (λ c κs. search needs)

@@ -11,16 +11,14 @@ returns c =
       c .first-of .ensures,
       c .before .call-faults .ensures,
       s .is-above .ensures,
-      t .time-of .ensures,
-      t .before .is-state2 .ensures,
-      t .before .before .is-state .ensures,
+      t .is-state2 .ensures,
+      t .before .is-state .ensures,
     )
 
 pub stop-answer-spec : {M : Type 1} → statement M
 stop-answer-spec =
     tie.close
     (tie.spec
-    (λ c κs. search needs)
     (λ c κs. search needs)
     (λ c κs. search needs)
     (λ c κs. search needs)

@@ -24,13 +24,14 @@ returns-2 c =
     let i = c .before in
     let d = i .before in
     let s = d .before in
-    let a = s .before .before .before .before .args in
+    let stamp = s .before .time-of .ensures in
+    let a = s .before .before .before .before .before .args in
     let e = bare (a .e) in
     let r = s .send-answer .result in
     let o = sendOf e (a .clock) (a .value .now) in
     let q : o ≡ refused e r =
-    rw (← s .send-answer .ensures, ← d .is-done .ensures, not-true (d .is-done .result) (i .if2 .taken)) in
-    quiet (a .out .now) e o (s .before .if1 .left) r (refused e r .endpoint) q (c .refused .ensures)
+    rw (← stamp, ← s .send-answer .ensures, ← d .is-done .ensures, not-true (d .is-done .result) (i .if2 .taken)) in
+    quiet (a .out .now) e o (s .before .before .if1 .left) r (refused e r .endpoint) q (c .refused .ensures)
 
 returns-3 : tie.Need-returns-3
 returns-3 c =
@@ -40,23 +41,25 @@ returns-3 c =
     let i = f .before .before in
     let d = i .before .before in
     let s = d .before in
-    let a = s .before .before .before .before .args in
+    let stamp = s .before .time-of .ensures in
+    let a = s .before .before .before .before .before .args in
     let e = bare (a .e) in
     let b = a .value .now in
     let x = refreshSentOf e (a .clock) in
     let g = refreshFields e (a .clock) in
-    let room = s .before .if1 .left in
+    let room = s .before .before .if1 .left in
     let done = not-false (d .is-done .result) (i .before .if2 .left) in
+    let refresh = sym (i .is-state .ensures) ∙ f .before .if3 .taken in
     let n : length b ≡ sendWidth (a .e .settings) =
-    sent-width e (a .clock) (length b) (sym (i .is-state .ensures) ∙ f .before .if3 .taken)
-    (sym (s .send-answer .ensures) ∙ is-done (s .send-answer .result) (sym (d .is-done .ensures) ∙ done)) in
+    sent-width e (a .clock) (length b) refresh
+    (rw (← stamp, ← s .send-answer .ensures) (is-done (s .send-answer .result) (sym (d .is-done .ensures) ∙ done))) in
     let q : sendOf e (a .clock) b ≡ outcome Done x (frame g b) =
-    rw (← s .send-answer .ensures, ← d .is-done .ensures, done, ← i .is-state .ensures, f .before .if3 .taken) in
+    rw (← stamp, ← s .send-answer .ensures, ← d .is-done .ensures, done, refresh) in
     loud (a .out .now) e (sendOf e (a .clock) b) room Done x g b q
     (whole g b (a .out .now) room
     (refresh-writable e (a .clock) (length b) (rw n (send-width-length (a .e .settings))))
-    (rw (h .head-of .ensures, f .refresh-fields .ensures) at (w .write-whole .ensures)))
-    (rw (← c .before .refresh-sent .ensures) (c .stepped2 .ensures))
+    (rw (h .head-of .ensures, f .sent-fields .ensures, stamp) at (w .write-whole .ensures)))
+    (rw (← stamp, ← c .before .with-sent .ensures) (c .stepped2 .ensures))
 
 returns-4 : tie.Need-returns-4
 returns-4 c =
@@ -67,19 +70,22 @@ returns-4 c =
     let i = f .before .before in
     let d = i .before .before in
     let s = d .before in
-    let a = s .before .before .before .before .args in
+    let stamp = s .before .time-of .ensures in
+    let a = s .before .before .before .before .before .args in
     let e = bare (a .e) in
     let b = dueData e in
     let x = requestedOf e (a .clock) in
     let g = requestFields e (a .clock) in
-    let room = s .before .if1 .left in
+    let room = s .before .before .if1 .left in
     let done = not-false (d .is-done .result) (i .before .if2 .left) in
+    let setup = sym (i .is-state .ensures) ∙ f .before .if3 .left in
     let q : sendOf e (a .clock) (a .value .now) ≡ outcome Done x (frame g b) =
-    rw (← s .send-answer .ensures, ← d .is-done .ensures, done, ← i .is-state .ensures, f .before .if3 .left) in
+    rw (← stamp, ← s .send-answer .ensures, ← d .is-done .ensures, done, setup) in
     loud (a .out .now) e (sendOf e (a .clock) (a .value .now)) room Done x g b q
     (whole g b (a .out .now) room (request-writable e (a .clock))
-    (rw (h .head-of2 .ensures, f .request-fields .ensures, k .due-data .ensures .holds) at (w .write-data .ensures)))
-    (rw (← c .before .requested .ensures) (c .stepped3 .ensures))
+    (rw (h .head-of2 .ensures, f .request-fields .ensures, stamp, k .due-data .ensures .holds)
+    at (w .write-data .ensures)))
+    (rw (← stamp, ← c .before .requested .ensures) (c .stepped3 .ensures))
 
 pub send-spec : {M : Type 1} → statement M
 send-spec =
@@ -87,6 +93,7 @@ send-spec =
     (tie.spec
     (λ c κs. search needs)
     returns
+    (λ c κs. search needs)
     (λ c κs. search needs)
     (λ c κs. search needs)
     (λ c κs. search needs)

@@ -6,13 +6,12 @@ use Rattle.steps.proofs.send.send_answer.Tie as tie
 returns : tie.Need-returns
 returns c =
     let s = c .before .before in
-    let w = s .before .before in
+    let w = s .before in
     let m = w .before .before in
     rw (
       c .first-of .ensures,
       c .before .call-faults .ensures,
       s .is-above .ensures,
-      s .before .time-of .ensures,
       w .send-width .ensures,
       w .before .is-exhausted .ensures,
       m .may-request .ensures,
@@ -23,7 +22,6 @@ pub send-answer-spec : {M : Type 1} → statement M
 send-answer-spec =
     tie.close
     (tie.spec
-    (λ c κs. search needs)
     (λ c κs. search needs)
     (λ c κs. search needs)
     (λ c κs. search needs)

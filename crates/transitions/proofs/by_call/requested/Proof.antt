@@ -12,14 +12,12 @@ returns c =
       p .with-pending .ensures,
       k .counted .ensures,
       k .before .request-due .ensures,
-      k .before .before .time-of .ensures,
     )
 
 pub requested-spec : {M : Type 1} → statement M
 requested-spec =
     tie.close
     (tie.spec
-    (λ c κs. search needs)
     (λ c κs. search needs)
     (λ c κs. search needs)
     (λ c κs. search needs)

@@ -9,11 +9,10 @@ returns c =
 
 returns-2 : tie.Need-returns-2
 returns-2 c =
-    let i = c .before .before in
+    let i = c .before in
     let x = i .before .before in
     rw (
       c .with-sent .ensures,
-      c .before .time-of .ensures,
       x .ended .ensures,
       x .before .counted .ensures,
       i .if1 .left,
@@ -26,6 +25,5 @@ stopped-spec =
     (λ c κs. search needs)
     (λ c κs. search needs)
     returns
-    (λ c κs. search needs)
     (λ c κs. search needs)
     returns-2)
