@@ -212,7 +212,7 @@ pub fn deliver(e: Core, clock: u64, f: Fields, body: &[u8], out: &mut [u8]) -> S
     if is(k, Command::Refresh) {
         return take_refresh(e, clock, f.timestamp, body);
     }
-    // A copy for setup, so that the core of a value's way need not stand in memory: 13 ns an exchange.
+    // A copy for setup, so that on a value's way the core need not stand in memory.
     let setup = e;
     if setup.settings.slave {
         return take_request(setup, clock, f, body, out);
