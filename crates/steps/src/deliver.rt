@@ -19,7 +19,6 @@ use super::frames::due_data;
 use super::frames::reply_fields;
 use super::frames::setup_data;
 use super::frames::show_width;
-use super::frames::write_whole;
 use super::lifecycle::refused;
 use super::lifecycle::stepped;
 use endpoint::Answer;
@@ -50,6 +49,7 @@ use frame::Fields;
 use frame::LONGEST_FRAME;
 use frame::control::is;
 use frame::write::head_of;
+use frame::write::write_head;
 use transitions::by_frame::ended_by;
 use transitions::by_frame::heard;
 use transitions::by_frame::refreshed;
@@ -160,7 +160,7 @@ fn take_request(e: Core, clock: u64, f: Fields, body: &[u8], out: &mut [u8]) -> 
     }
     let busy = done & is_busy(e, k);
     let reply = reply_fields(e, f, busy, is_ended(answer));
-    let count = write_whole(head_of(reply), body, out);
+    let count = write_head(head_of(reply), body, out);
     stepped(answer, next, count)
 }
 

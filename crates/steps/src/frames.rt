@@ -21,6 +21,7 @@ use frame::Fields;
 use frame::Head;
 use frame::Subconnection;
 use frame::TIMESTAMP_MODULUS;
+use frame::write::write_head;
 use words::put_word;
 
 fn four_words(a: u32, b: u32, c: u32, d: u32) -> [u8; 16]
@@ -170,13 +171,6 @@ pub(crate) fn reply_fields(e: Core, f: Fields, busy: bool, error: bool) -> Field
     }
 }
 
-// Writes a frame from its words. The callers work these out, where the fields are known; the writing is one function.
-pub(crate) fn write_whole(head: Head, body: &[u8], out: &mut [u8]) -> usize
-    ensures { λ r. ⌜ HeadSays head (now (body .entry)) (now (out .entry)) (now (out .exit)) r ⌝ }
-{
-    frame::write::write_head(head, body, out)
-}
-
 // Writes a frame with the data of a setup request.
 pub(crate) fn write_data(head: Head, carried: SetupData, out: &mut [u8]) -> usize
     requires { ⌜ carried .length ≤ length (carried .bytes) ⌝ }
@@ -184,5 +178,5 @@ pub(crate) fn write_data(head: Head, carried: SetupData, out: &mut [u8]) -> usiz
 {
     let bytes = carried.bytes;
     let n = carried.length;
-    write_whole(head, &bytes[..n], out)
+    write_head(head, &bytes[..n], out)
 }

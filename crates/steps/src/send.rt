@@ -11,7 +11,6 @@ use super::frames::request_fields;
 use super::frames::send_width;
 use super::frames::sent_fields;
 use super::frames::write_data;
-use super::frames::write_whole;
 use super::lifecycle::refused;
 use super::lifecycle::stepped;
 use endpoint::Answer;
@@ -30,6 +29,7 @@ use endpoint::updates::with_sent;
 use frame::Command;
 use frame::LONGEST_FRAME;
 use frame::write::head_of;
+use frame::write::write_head;
 use transitions::by_call::requested;
 
 fn send_answer(e: Core, stamp: u64, width: usize) -> Answer
@@ -74,7 +74,7 @@ pub fn send(e: Core, clock: u64, value: &[u8], out: &mut [u8]) -> Stepped
             stamp,
             0,
         );
-        let count = write_whole(head_of(fields), value, out);
+        let count = write_head(head_of(fields), value, out);
         return stepped(Answer::Done, with_sent(stamp, e), count);
     }
     let count = write_data(head_of(request_fields(e, clock, stamp)), due_data(e), out);

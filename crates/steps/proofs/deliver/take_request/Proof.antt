@@ -114,8 +114,8 @@ returns-3 c =
     (whole g x (a .out .now) (t .pre .0)
     (reply-writable e (a .clock) (a .f) (isDone r) (isEnded r) (length x) (t .pre .1) other
     (rw n (setup-length (a .e .settings) (a .f .command))))
-    (rw (h .head-of .ensures, fields) at (w .write-whole .ensures)))
-    (c .stepped3 .ensures ∙ ap (λ (y : Core). steppedOf r y (w .write-whole .result))
+    (rw (h .head-of .ensures, fields) at (w .write-head .ensures)))
+    (c .stepped3 .ensures ∙ ap (λ (y : Core). steppedOf r y (w .write-head .result))
     (left-is e (a .clock) (a .f) x r (s .request-answer .ensures) (l .left .ensures) (d .is-done .ensures)))
 
 pub take-request-spec : {M : Type 1} → statement M

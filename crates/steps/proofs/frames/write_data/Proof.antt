@@ -5,8 +5,8 @@ use mathlib.Core.Path.{sym}
 use Rattle.steps.proofs.frames.write_data.Statement.{statement}
 use Rattle.steps.proofs.frames.write_data.Tie as tie
 
-slice-aggregate-write-whole : tie.Need-slice-aggregate-write-whole
-slice-aggregate-write-whole c =
+slice-aggregate-write-head : tie.Need-slice-aggregate-write-head
+slice-aggregate-write-head c =
     let s = c .before .before .before in
     let d = s .args .carried in
     sym (length-take-le (d .length) (d .bytes) (s .pre))
@@ -16,7 +16,7 @@ write-data-spec =
     tie.close
     (tie.spec
     (λ c. search needs)
-    slice-aggregate-write-whole
+    slice-aggregate-write-head
     (λ c κs. search needs)
     (λ c. search needs)
-    (λ c. c .before .before .write-whole .ensures))
+    (λ c. c .before .before .write-head .ensures))

@@ -58,7 +58,7 @@ returns-3 c =
     loud (a .out .now) e (sendOf e (a .clock) b) room Done x g b q
     (whole g b (a .out .now) room
     (refresh-writable e (a .clock) (length b) (rw n (send-width-length (a .e .settings))))
-    (rw (h .head-of .ensures, f .sent-fields .ensures, stamp) at (w .write-whole .ensures)))
+    (rw (h .head-of .ensures, f .sent-fields .ensures, stamp) at (w .write-head .ensures)))
     (rw (← stamp, ← c .before .with-sent .ensures) (c .stepped2 .ensures))
 
 returns-4 : tie.Need-returns-4
