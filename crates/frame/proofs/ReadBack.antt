@@ -13,8 +13,9 @@ use Rattle.frame.specs.declared.Fields.{Fields}
 use Rattle.frame.specs.declared.Reading.the-variants.{Frame}
 use Rattle.frame.specs.Reading.{readingOf}
 use Rattle.frame.specs.Writing.{frameBytes, isWritable, writtenOf, WriteSays}
-use Rattle.frame.specs.RoundTrip.{Typed, Readable, RoundTrip}
+use Rattle.frame.specs.RoundTrip.{SubconnectionFits, Readable, RoundTrip}
 use Rattle.frame.proofs.Lengths.{length-frame}
+use Rattle.frame.proofs.Written.{written as by-words}
 use Rattle.frame.proofs.There.{reads, body-lies}
 use Rattle.frame.proofs.Back.{within, back}
 
@@ -27,8 +28,8 @@ only f g b c w x e =
     (cc, sym (body-lies f b w) ∙ (λ i. slice 20 (m i) (e i)) ∙ body-lies g c x)
 
 -- ---- what was written over an output's front is its front
-module _ (f : Fields) (body out out′ : List ℕ) (count : ℕ) (t : Typed f body) (w : WriteSays f body out out′ count)
-    (some : 0 < count) where
+module _ (f : Fields) (body out out′ : List ℕ) (count : ℕ) (baseline : f .baseline < 65536)
+    (subconnection : SubconnectionFits (f .subconnection)) (w : WriteSays f body out out′ count) (some : 0 < count) where
   test : Bool
   test = isWritable f (length body) && leb (48 + 2 * length body) (length out)
 
@@ -43,8 +44,8 @@ module _ (f : Fields) (body out out′ : List ℕ) (count : ℕ) (t : Typed f bo
   readable : Readable f body
   unfolding test
   readable = record {
-    baseline = t .baseline;
-    subconnection = t .subconnection;
+    baseline = baseline;
+    subconnection = subconnection;
     formed = and-elim-left (isWritable f (length body)) _ (passed test refl);
   }
 
@@ -77,7 +78,12 @@ round-trip = record {
   within = within;
   only = only;
   written = λ f body out out′ count t w some. (
-    read-back f body out out′ count t w some,
-    body-back f body out out′ count t w some,
+    read-back f body out out′ count (t .baseline) (t .subconnection) w some,
+    body-back f body out out′ count (t .baseline) (t .subconnection) w some,
   );
+  words = λ f body out out′ count r s some.
+      let w = by-words f body out (r .formed) s in (
+        read-back f body out out′ count (r .baseline) (r .subconnection) w some,
+        body-back f body out out′ count (r .baseline) (r .subconnection) w some,
+      );
 }

@@ -11,7 +11,7 @@ use Rattle.frame.specs.declared.Subconnection.the-variants.{Absent, Numb
 use Rattle.frame.specs.declared.Fields.{Fields}
 use Rattle.frame.specs.declared.Reading.the-variants.{Frame}
 use Rattle.frame.specs.Reading.{readingOf}
-use Rattle.frame.specs.Writing.{isWritable, frameBytes, WriteSays}
+use Rattle.frame.specs.Writing.{isWritable, frameBytes, WriteSays, headOf, HeadSays}
 
 -- the numbers are within their types: CID of 32 bits, OBL and Sub CID of 16, bytes
 abbrev pub SubconnectionFits : Subconnection → Type 0
@@ -51,5 +51,10 @@ pub record RoundTrip : Type 0 where
   -- what write_frame wrote, read_frame reads back
   pub written : (f : Fields) (body out out′ : List ℕ) (count : ℕ) → Typed f body
       → WriteSays f body out out′ count → 0 < count
+      → (readingOf (take count out′) ≡ Frame f 20 (20 + length body))
+      × (slice 20 (20 + length body) out′ ≡ body)
+  -- and so is what write_head wrote of the words of fields that can be written, as the ends write
+  pub words : (f : Fields) (body out out′ : List ℕ) (count : ℕ) → Readable f body
+      → HeadSays (headOf f) body out out′ count → 0 < count
       → (readingOf (take count out′) ≡ Frame f 20 (20 + length body))
       × (slice 20 (20 + length body) out′ ≡ body)
