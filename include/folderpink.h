@@ -43,7 +43,7 @@ extern "C" {
 /* An output that is lent has at least the bytes of the longest frame. */
 #define FOLDERPINK_OUTPUT_MIN FOLDERPINK_FRAME_MAX
 
-/* A value has 1 to 25 words of 4 bytes. */
+/* A value has 1 to 25 words of 4 bytes; so have S-InvokeFunc's request and its result. */
 #define FOLDERPINK_VALUE_MAX 100
 
 /* The most connections of a gateway, and how many words of the settings list each has. */
@@ -77,7 +77,10 @@ enum folderpink_number {
     /* clock: the reading is above FOLDERPINK_CLOCK_MAX, or below the gateway's last. */
     FOLDERPINK_CLOCK = 1,
 
-    /* buffer: fewer records than the table has connections, or an output under 248 bytes. */
+    /*
+     * buffer: fewer records than the table has connections; or an output under 248 bytes, which
+     * cannot be where a call is lent none.
+     */
     FOLDERPINK_BUFFER = 2,
 
     /* entry: there is no such connection. */
@@ -94,8 +97,8 @@ enum folderpink_number {
 
     /*
      * form: Cmd unlisted; Ack, Error or Application not allowed with this Cmd; Busy outside a
-     * reply to S-InitConfirmNetPrm, S-InitVerifyStnPrm or S-RefreshReady; OBL not 0 outside an
-     * S-RefreshGO request; another bit of CTRL, or RSV, not 0.
+     * reply to S-InitConfirmNetPrm, S-InitVerifyStnPrm, S-InvokeFunc or S-RefreshReady; OBL not 0
+     * outside an S-RefreshGO request; another bit of CTRL, or RSV, not 0.
      */
     FOLDERPINK_FORM = 7,
 
@@ -111,7 +114,7 @@ enum folderpink_number {
     /* turn: not allowed in this state, nothing due, or a call of the other role. */
     FOLDERPINK_TURN = 11,
 
-    /* width: a value or S-Data of the wrong length. */
+    /* width: a value, a command, a result or S-Data of the wrong length. */
     FOLDERPINK_WIDTH = 12,
 
     /* repeat: the timestamp is not above the last accepted, or a reply's not the pending one. */
@@ -136,54 +139,61 @@ enum folderpink_number {
     FOLDERPINK_EXHAUSTED = 19
 };
 
-/* The states of a connection; above 7 is Terminate too. */
+/* The states of a connection; above 8 is Terminate too. */
 enum folderpink_state {
     FOLDERPINK_CLOSE = 0,
     FOLDERPINK_STARTING = 1, /* a master's, before its first reply */
     FOLDERPINK_ESTABLISH_PENDING = 2,
     FOLDERPINK_ESTABLISH = 3,
     FOLDERPINK_PARAM_VERIFY = 4,
-    FOLDERPINK_REFRESH_PENDING = 5,
-    FOLDERPINK_REFRESH = 6,
-    FOLDERPINK_TERMINATE = 7
+    FOLDERPINK_FUNC_RUNNING = 5, /* a slave's, from its first S-InvokeFunc on */
+    FOLDERPINK_REFRESH_PENDING = 6,
+    FOLDERPINK_REFRESH = 7,
+    FOLDERPINK_TERMINATE = 8
 };
 
-/* All that a connection keeps, but for its value. A flag is 0, or set. */
+/* All that a connection keeps, but for its value and its words. A flag is 0, or set. */
 struct folderpink_stored {
-    uint64_t since;    /* the clock reading where the timer starts */
+    uint64_t since; /* the clock reading where the timer starts */
+
+    /* The settings, and the state among them. */
+    uint32_t interval;   /* I, in ticks, as R and A */
+    uint32_t roundtrip;  /* R */
+    uint32_t connection; /* the CID */
+    uint32_t age;        /* A */
+    uint32_t station;    /* the station word */
+    uint8_t state;       /* one of folderpink_state */
+    uint8_t slave;       /* a flag: the role */
+    uint8_t masterwords; /* M */
+    uint8_t slavewords;  /* S */
+
     uint64_t sent;     /* the timestamp last sent, where hassent is set */
     uint64_t accepted; /* the timestamp last accepted, where hasaccepted is set */
     uint64_t asked;    /* that of a master's request that waits for its reply, if hasasked is set */
     uint64_t measured; /* s2 at a slave, m2 at a master */
     uint64_t offset;   /* ts_offset at a slave */
-
-    /* The settings. */
-    uint32_t connection; /* the CID */
-    uint32_t interval;   /* I, in ticks, as the next two */
-    uint32_t roundtrip;  /* R */
-    uint32_t age;        /* A */
-    uint32_t station;    /* the station word */
-    uint8_t state;       /* one of folderpink_state */
-    uint8_t slave;       /* a flag: the role; of the settings, as the next two */
-    uint8_t masterwords; /* M */
-    uint8_t slavewords;  /* S */
-
     uint8_t hassent;
     uint8_t hasaccepted;
     uint8_t hasasked;
     uint8_t requests; /* setup requests written since the last start or loading */
+    uint8_t queue;    /* a master's: 0 nothing waits, 1 a command waits; else it is closed:
+                         S-RefreshReady has gone since the last start */
     uint8_t notready; /* a flag: what set_not_ready set */
+    uint8_t words;    /* how many words were handed over: a slave's result, 0 for none; a master's
+                         command, where one waits */
     uint8_t taken;    /* a flag: a value was accepted in this Refresh */
 };
 
 /*
  * A connection's record. Its value is the last one accepted in this Refresh, with zeros after it,
  * or the fail-safe value, all zeros. Use folderpink_show to read it: only a call tests the timers.
+ * The first stored.words of its words are a slave's result, or the command that waits at a master.
  * Bytes between the fields and after them have no meaning.
  */
 struct folderpink_record {
     struct folderpink_stored stored;
     uint8_t value[FOLDERPINK_VALUE_MAX];
+    uint8_t words[FOLDERPINK_VALUE_MAX];
 };
 
 /* What a gateway keeps beside the records. All zeros: never loaded, a table of no connections. */
@@ -193,15 +203,16 @@ struct folderpink_gateway {
 };
 
 /*
- * What a call is asked with. The caller sets clock, entry and notready as each call needs them;
- * they stay. gateway is the library's, from folderpink_load on: each call leaves in it what the
- * next one needs.
+ * What a call is asked with. The caller sets clock, entry, notready and word as each call needs
+ * them; they stay. gateway is the library's, from folderpink_load on: each call leaves in it what
+ * the next one needs.
  */
 struct folderpink_call {
     struct folderpink_gateway gateway;
     uint64_t clock;                    /* the caller's clock reading */
     size_t entry;                      /* the connection, from 0 on; deliver does not look at it */
     uint8_t notready;                  /* a flag, of set_not_ready alone */
+    uint32_t word;                     /* the command word, of invoke alone */
 };
 
 /* What a call answers. */
@@ -245,6 +256,38 @@ struct folderpink_told folderpink_set_not_ready(struct folderpink_call *call,
                                                 struct folderpink_record *records,
                                                 size_t records_length);
 
+/*
+ * A slave's user sets the result of a command (S-InvokeFunc), in any state: the whole S-Data of
+ * the reply, 1 to 25 words, the command word's place included; else 12, and an earlier result
+ * stays. While no result of the request's length is set, the reply is Busy, and the master asks
+ * again. Which command came is told by that Busy reply, as deliver writes it: out[0] is 3, and the
+ * command's words are the count / 2 - 24 bytes from out[20] on. A result is not used up: it answers
+ * every later command of its length too, also another one, until it is cleared, replaced or unset
+ * by loading. So clear it once its command is over.
+ */
+struct folderpink_told folderpink_set_result(struct folderpink_call *call,
+                                             struct folderpink_record *records,
+                                             size_t records_length, const uint8_t *bytes,
+                                             size_t bytes_length);
+
+/* A slave's user clears the result, in any state; done where none is set, too. */
+struct folderpink_told folderpink_clear_result(struct folderpink_call *call,
+                                               struct folderpink_record *records,
+                                               size_t records_length);
+
+/*
+ * A master's user queues a command for the station, a tare for example (S-InvokeFunc): call.word,
+ * and 0 to 24 further words. Nothing is sent by this call: send writes the command where
+ * S-RefreshReady would be due, again after each Busy reply, and S-RefreshReady once it is
+ * answered. Each counts among the 45 requests of a start. The command waits until its reply
+ * without Busy, whose words deliver writes, or until the connection's end, which drops it.
+ * 11: not a master in setup (from start on, before Refresh), a command waits already, or
+ * S-RefreshReady has gone since the last start. 12: not 0 to 24 whole words.
+ */
+struct folderpink_told folderpink_invoke(struct folderpink_call *call,
+                                         struct folderpink_record *records, size_t records_length,
+                                         const uint8_t *bytes, size_t bytes_length);
+
 /* To Terminate, from any state but Close and Terminate; a master's writes S-Disconnect. */
 struct folderpink_told folderpink_stop(struct folderpink_call *call,
                                        struct folderpink_record *records, size_t records_length,
@@ -260,7 +303,7 @@ struct folderpink_told folderpink_show(struct folderpink_call *call,
 
 /*
  * Writes the frame to be sent: in Refresh S-Refresh with the value (4 x M bytes of a master, 4 x S
- * of a slave), before it a master's next setup request, whatever value is lent.
+ * of a slave), before it a master's next setup request or queued command, whatever value is lent.
  */
 struct folderpink_told folderpink_send(struct folderpink_call *call,
                                        struct folderpink_record *records, size_t records_length,
@@ -269,7 +312,10 @@ struct folderpink_told folderpink_send(struct folderpink_call *call,
 
 /*
  * Takes what a cycle of the bus brought: a frame, or 0 bytes for nothing, which takes the clock
- * step alone. A slave's reply is written to the output, to be sent.
+ * step alone. What is written at a slave is its reply, to be sent. At a master it is the result of
+ * the command that was queued, count / 4 words for the user, NOT to be sent: a master's deliver
+ * never writes a frame. The count does not tell the two apart; the role of the connection that is
+ * named does (stored.slave of records[told.entry], or the caller's own list).
  */
 struct folderpink_told folderpink_deliver(struct folderpink_call *call,
                                           struct folderpink_record *records, size_t records_length,
@@ -299,31 +345,34 @@ FOLDERPINK_LAYOUT(sizeof(size_t) == 8);
 FOLDERPINK_LAYOUT(sizeof(struct folderpink_stored) == 80);
 FOLDERPINK_LAYOUT(FOLDERPINK_ALIGN(struct folderpink_stored) == 8);
 FOLDERPINK_LAYOUT(offsetof(struct folderpink_stored, since) == 0);
-FOLDERPINK_LAYOUT(offsetof(struct folderpink_stored, sent) == 8);
-FOLDERPINK_LAYOUT(offsetof(struct folderpink_stored, accepted) == 16);
-FOLDERPINK_LAYOUT(offsetof(struct folderpink_stored, asked) == 24);
-FOLDERPINK_LAYOUT(offsetof(struct folderpink_stored, measured) == 32);
-FOLDERPINK_LAYOUT(offsetof(struct folderpink_stored, offset) == 40);
-FOLDERPINK_LAYOUT(offsetof(struct folderpink_stored, connection) == 48);
-FOLDERPINK_LAYOUT(offsetof(struct folderpink_stored, interval) == 52);
-FOLDERPINK_LAYOUT(offsetof(struct folderpink_stored, roundtrip) == 56);
-FOLDERPINK_LAYOUT(offsetof(struct folderpink_stored, age) == 60);
-FOLDERPINK_LAYOUT(offsetof(struct folderpink_stored, station) == 64);
-FOLDERPINK_LAYOUT(offsetof(struct folderpink_stored, state) == 68);
-FOLDERPINK_LAYOUT(offsetof(struct folderpink_stored, slave) == 69);
-FOLDERPINK_LAYOUT(offsetof(struct folderpink_stored, masterwords) == 70);
-FOLDERPINK_LAYOUT(offsetof(struct folderpink_stored, slavewords) == 71);
+FOLDERPINK_LAYOUT(offsetof(struct folderpink_stored, interval) == 8);
+FOLDERPINK_LAYOUT(offsetof(struct folderpink_stored, roundtrip) == 12);
+FOLDERPINK_LAYOUT(offsetof(struct folderpink_stored, connection) == 16);
+FOLDERPINK_LAYOUT(offsetof(struct folderpink_stored, age) == 20);
+FOLDERPINK_LAYOUT(offsetof(struct folderpink_stored, station) == 24);
+FOLDERPINK_LAYOUT(offsetof(struct folderpink_stored, state) == 28);
+FOLDERPINK_LAYOUT(offsetof(struct folderpink_stored, slave) == 29);
+FOLDERPINK_LAYOUT(offsetof(struct folderpink_stored, masterwords) == 30);
+FOLDERPINK_LAYOUT(offsetof(struct folderpink_stored, slavewords) == 31);
+FOLDERPINK_LAYOUT(offsetof(struct folderpink_stored, sent) == 32);
+FOLDERPINK_LAYOUT(offsetof(struct folderpink_stored, accepted) == 40);
+FOLDERPINK_LAYOUT(offsetof(struct folderpink_stored, asked) == 48);
+FOLDERPINK_LAYOUT(offsetof(struct folderpink_stored, measured) == 56);
+FOLDERPINK_LAYOUT(offsetof(struct folderpink_stored, offset) == 64);
 FOLDERPINK_LAYOUT(offsetof(struct folderpink_stored, hassent) == 72);
 FOLDERPINK_LAYOUT(offsetof(struct folderpink_stored, hasaccepted) == 73);
 FOLDERPINK_LAYOUT(offsetof(struct folderpink_stored, hasasked) == 74);
 FOLDERPINK_LAYOUT(offsetof(struct folderpink_stored, requests) == 75);
-FOLDERPINK_LAYOUT(offsetof(struct folderpink_stored, notready) == 76);
-FOLDERPINK_LAYOUT(offsetof(struct folderpink_stored, taken) == 77);
+FOLDERPINK_LAYOUT(offsetof(struct folderpink_stored, queue) == 76);
+FOLDERPINK_LAYOUT(offsetof(struct folderpink_stored, notready) == 77);
+FOLDERPINK_LAYOUT(offsetof(struct folderpink_stored, words) == 78);
+FOLDERPINK_LAYOUT(offsetof(struct folderpink_stored, taken) == 79);
 
-FOLDERPINK_LAYOUT(sizeof(struct folderpink_record) == 184);
+FOLDERPINK_LAYOUT(sizeof(struct folderpink_record) == 280);
 FOLDERPINK_LAYOUT(FOLDERPINK_ALIGN(struct folderpink_record) == 8);
 FOLDERPINK_LAYOUT(offsetof(struct folderpink_record, stored) == 0);
 FOLDERPINK_LAYOUT(offsetof(struct folderpink_record, value) == 80);
+FOLDERPINK_LAYOUT(offsetof(struct folderpink_record, words) == 180);
 
 FOLDERPINK_LAYOUT(sizeof(struct folderpink_gateway) == 16);
 FOLDERPINK_LAYOUT(FOLDERPINK_ALIGN(struct folderpink_gateway) == 8);
@@ -336,6 +385,7 @@ FOLDERPINK_LAYOUT(offsetof(struct folderpink_call, gateway) == 0);
 FOLDERPINK_LAYOUT(offsetof(struct folderpink_call, clock) == 16);
 FOLDERPINK_LAYOUT(offsetof(struct folderpink_call, entry) == 24);
 FOLDERPINK_LAYOUT(offsetof(struct folderpink_call, notready) == 32);
+FOLDERPINK_LAYOUT(offsetof(struct folderpink_call, word) == 36);
 
 FOLDERPINK_LAYOUT(sizeof(struct folderpink_told) == 24);
 FOLDERPINK_LAYOUT(FOLDERPINK_ALIGN(struct folderpink_told) == 8);

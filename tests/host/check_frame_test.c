@@ -47,10 +47,12 @@ static const uint32_t legal_ctrl[] = {
     0x00000000u, 0x00840000u, 0x00A40000u, /* S-Connect */
     0x01000000u, 0x01840000u, 0x01A40000u, /* S-InitConfirmNetPrm */
     0x02000000u, 0x02840000u, 0x02A40000u, /* S-InitVerifyStnPrm */
+    0x03000000u, 0x03840000u, 0x03A40000u, /* S-InvokeFunc */
     0xFC000000u, 0xFC840000u, 0xFCA40000u, /* S-RefreshReady */
     GO_REQUEST,  0xFE840000u, 0xFEA40000u, /* S-RefreshGO */
     0x01C40000u, 0x01E40000u,              /* replies with Busy, without Error and with it */
     0x02C40000u, 0x02E40000u,
+    0x03C40000u, 0x03E40000u,
     0xFCC40000u, 0xFCE40000u,
     0xF9000000u,                           /* S-Disconnect */
     0xFF000000u, 0xFF040000u,              /* S-Refresh of a master, of a slave */
@@ -368,8 +370,18 @@ static const struct {
     {{0xFE840000u, 0x01020103u, 0x0410000Au, 0, 0, 0, 0x68AF8F3Fu}, 7},
     /* S-Disconnect with Ack */
     {{0xF9840000u, 0x01020103u, 0x03E80000u, 0, 0, 0, 0x546D4D46u}, 7},
-    /* Cmd 0x03 */
-    {{0x03000000u, 0x01020103u, 0x03E80000u, 0, 0, 0, 0xB51838CBu}, 7},
+    /* S-InvokeFunc request of one word */
+    {{0x03000000u, 0x01020103u, 0x03E80000u, 0, 0, 10, 0xDEFA10F3u}, 0},
+    /* the same with Busy */
+    {{0x03400000u, 0x01020103u, 0x03E80000u, 0, 0, 10, 0xC9FF6B5Eu}, 7},
+    /* S-InvokeFunc reply with Busy */
+    {{0x03C40000u, 0x01020103u, 0x03E80000u, 0, 0, 10, 0x35562A15u}, 0},
+    /* S-InvokeFunc reply without Application */
+    {{0x03800000u, 0x01020103u, 0x03E80000u, 0, 0, 10, 0xF0F0E7A9u}, 7},
+    /* S-InvokeFunc reply with Error */
+    {{0x03A40000u, 0x01020103u, 0x03E80000u, 0, 0, 10, 0xAB27D716u}, 0},
+    /* Cmd 0x04 */
+    {{0x04000000u, 0x01020103u, 0x03E80000u, 0, 0, 0, 0x9CC3EE72u}, 7},
 };
 
 static void test_fixed_frames(void)

@@ -1,7 +1,8 @@
 /*
  * The calls of an exchange in plain C, written from documents 01 and 02: the baseline of the
  * exchange benchmark. A gateway is passed by pointer. Stop, restart, stations that are not
- * ready and the tests of a settings list are left out: no exchange meets them.
+ * ready, commands and their results, and the tests of a settings list are left out: no exchange
+ * meets them.
  */
 #include "exchange_reference.h"
 

@@ -89,6 +89,7 @@ static bool is_form_right(const uint8_t *subpdu)
         return application == ack && !busy && obl == 0;
     case S_INIT_CONFIRM_NET_PRM:
     case S_INIT_VERIFY_STN_PRM:
+    case S_INVOKE_FUNC:
     case S_REFRESH_READY:
         return application == ack && (!busy || ack) && obl == 0;
     default:

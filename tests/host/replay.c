@@ -34,6 +34,9 @@ enum kind {
     RESTART,
     NOT_READY,
     READY,
+    SET_RESULT,
+    CLEAR_RESULT,
+    INVOKE,
     STOP,
     SHOW,
     SEND,
@@ -132,6 +135,18 @@ static bool read_bytes(struct text word, size_t most)
     return is(word, "-") || (word.length > 0 && now.length <= most && read_hex(word, now.bytes));
 }
 
+/* Eight digits. */
+static bool read_word(struct text word, uint32_t *read)
+{
+    uint8_t b[4];
+
+    if (word.length != 8 || !read_hex(word, b)) {
+        return false;
+    }
+    *read = (uint32_t)b[0] << 24 | (uint32_t)b[1] << 16 | (uint32_t)b[2] << 8 | b[3];
+    return true;
+}
+
 /* After `load` a space and eight digits a word, and nothing else. */
 static bool read_list(struct text line)
 {
@@ -140,13 +155,11 @@ static bool read_list(struct text line)
         return false;
     }
     for (size_t i = 0; i < now.length; i++) {
-        const struct text word = {line.at + 4 + 9 * i, 9};
-        uint8_t b[4];
+        const uint8_t *space = line.at + 4 + 9 * i;
 
-        if (word.at[0] != ' ' || !read_hex((struct text){word.at + 1, 8}, b)) {
+        if (*space != ' ' || !read_word((struct text){space + 1, 8}, &now.list[i])) {
             return false;
         }
-        now.list[i] = (uint32_t)b[0] << 24 | (uint32_t)b[1] << 16 | (uint32_t)b[2] << 8 | b[3];
     }
     return true;
 }
@@ -158,8 +171,9 @@ static const struct {
     const char *word;
     enum kind kind;
 } entry_calls[] = {
-    {"start", START}, {"restart", RESTART}, {"notready", NOT_READY}, {"ready", READY},
-    {"stop", STOP},   {"show", SHOW},       {"send", SEND},
+    {"start", START},       {"restart", RESTART},       {"notready", NOT_READY}, {"ready", READY},
+    {"result", SET_RESULT}, {"noresult", CLEAR_RESULT}, {"invoke", INVOKE},      {"stop", STOP},
+    {"show", SHOW},         {"send", SEND},
 };
 
 static enum kind kind_of(struct text word)
@@ -172,17 +186,22 @@ static enum kind kind_of(struct text word)
     return NOTHING;
 }
 
-/* CLOCK ENTRY, and the value of a send. The last word is all that is left of the line. */
+/*
+ * CLOCK ENTRY, the command word of an invoke, and the bytes that a call is lent. The last word is
+ * all that is left of the line.
+ */
 static bool read_entry_call(struct text word, struct text rest)
 {
     const enum kind kind = kind_of(word);
+    const bool lends = kind == SEND || kind == SET_RESULT || kind == INVOKE;
     const struct text clock = next_word(&rest);
-    const struct text entry = kind == SEND ? next_word(&rest) : rest;
+    const struct text entry = lends ? next_word(&rest) : rest;
 
     now.kind = kind;
     return kind != NOTHING && read_number(clock, UINT64_MAX, &call.clock) &&
            read_number(entry, UINT32_MAX, &call.entry) &&
-           (kind != SEND || read_bytes(rest, sizeof now.bytes));
+           (kind != INVOKE || read_word(next_word(&rest), &call.word)) &&
+           (!lends || read_bytes(rest, kind == SEND ? sizeof now.bytes : FRAME_BYTES_MAX));
 }
 
 static bool read_deliver(struct text rest)
@@ -256,6 +275,15 @@ static void make_call(void)
     case READY:
         now.told = folderpink_set_not_ready(&call, records, lent);
         break;
+    case SET_RESULT:
+        now.told = folderpink_set_result(&call, records, lent, now.bytes, now.length);
+        break;
+    case CLEAR_RESULT:
+        now.told = folderpink_clear_result(&call, records, lent);
+        break;
+    case INVOKE:
+        now.told = folderpink_invoke(&call, records, lent, now.bytes, now.length);
+        break;
     case STOP:
         now.told = folderpink_stop(&call, records, lent, output, room);
         break;
@@ -280,7 +308,8 @@ static struct folderpink_call asked;
 /* Whether a byte past those written was changed, or more of the call than its gateway. */
 static bool is_dirty(size_t count)
 {
-    if (call.clock != asked.clock || call.entry != asked.entry || call.notready != asked.notready) {
+    if (call.clock != asked.clock || call.entry != asked.entry || call.notready != asked.notready ||
+        call.word != asked.word) {
         return true;
     }
     for (size_t i = count; i < sizeof output; i++) {

@@ -18,6 +18,7 @@
 #define S_CONNECT 0x00u
 #define S_INIT_CONFIRM_NET_PRM 0x01u
 #define S_INIT_VERIFY_STN_PRM 0x02u
+#define S_INVOKE_FUNC 0x03u
 #define S_DISCONNECT 0xF9u
 #define S_REFRESH_READY 0xFCu
 #define S_REFRESH_GO 0xFEu

@@ -1,5 +1,5 @@
 -- The theorem's premises can be met: two gateways are loaded into slices that were in use, the line starts, its station
--- at first not ready, refreshes both ways, and shows both values. All of it is computed.
+-- performs a command, is at first not ready, refreshes both ways, and shows both values. All of it is computed.
 use mathlib.Core.Path.{_≡_, refl, ap}
 use mathlib.Core.Bool.{Bool, true, false}
 use mathlib.Core.List.{List, [], _∷_, _++_}
@@ -13,12 +13,12 @@ use Rattle.frame.specs.Reading.{hasCheckWord, fieldsIn, readingOfCopies, readin
 use Rattle.frame.specs.Writing.{headBytes, withCheckWord, twice, subBytes, frameBytes, isWritable}
 use Rattle.transitions.specs.ByCall.{freshOf}
 use Rattle.transitions.specs.ByFrame.{refreshedOf}
-use Rattle.steps.specs.Frames.{sentFields, ackFields, setupData}
+use Rattle.steps.specs.Frames.{sentFields, ackFields, setupData, handedOver}
 use Rattle.settings.specs.Lists.{connectionAt, settingsAt, isConnectionAt, isNewAt, areConnections, isList}
 use Rattle.records.specs.declared.Record.{Record}
 use Rattle.records.specs.Records.{recordOf}
 use Rattle.gateway.specs.Tables.{endpointAt, placeOf, clockStep}
-use Rattle.steps.specs.Steps.{start, setNotReady}
+use Rattle.steps.specs.Steps.{start, setNotReady, setResult, invoke}
 use Rattle.link.specs.Runs as L
 use Rattle.runs.specs.Steps.{Call, act, send, deliver, show, call}
 use Rattle.age.specs.Runs.{Event, lastFrom, lastOf, Run, afterAll}
@@ -51,14 +51,32 @@ data-of : Command → List ℕ
 data-of k = setupData (settingsAt (list 0x30000021) 0) k
 
 -- a request written at t, taken by the slave, and its reply, Busy or not, taken by the master one tick later each
-answered : Bool → ℕ → Command → ℕ → List Event
-answered busy t k baseline =
+answered : Bool → ℕ → Command → ℕ → List ℕ → List ℕ → List Event
+answered busy t k baseline request reply =
     at-master t (send 0 [])
-    ∷ at-slave (5001 + t) (deliver (frameBytes (sentFields k false cid t baseline) (data-of k)))
-    ∷ at-master (2 + t) (deliver (frameBytes (ackFields k busy false cid t) (data-of k))) ∷ []
+    ∷ at-slave (5001 + t) (deliver (frameBytes (sentFields k false cid t baseline) request))
+    ∷ at-master (2 + t) (deliver (frameBytes (ackFields k busy false cid t) reply)) ∷ []
+
+-- a setup request, whose reply repeats its data
+repeated : Bool → ℕ → Command → ℕ → List Event
+repeated busy t k baseline = answered busy t k baseline (data-of k) (data-of k)
 
 exchange : ℕ → Command → ℕ → List Event
-exchange t k baseline = answered false t k baseline
+exchange t k baseline = repeated false t k baseline
+
+-- a queued command, first with Busy, since the station has no result yet, and then with its result
+command : List ℕ
+command = 0 ∷ 0 ∷ 0 ∷ 7 ∷ []
+
+result : List ℕ
+result = 9 ∷ 8 ∷ 7 ∷ 6 ∷ []
+
+performed : ℕ → List Event
+performed t =
+    (at-master t (act (invoke 7 []) 0) ∷ [])
+    ++ (answered true t K.InvokeFunc 0 command command
+    ++ ((at-slave (5002 + t) (act (setResult result) 0) ∷ [])
+    ++ answered false (3 + t) K.InvokeFunc 0 command result))
 
 line : List Event
 line =
@@ -66,11 +84,12 @@ line =
     ++ (exchange 10 K.Connect 0
     ++ (exchange 20 K.ConfirmNetwork 0
     ++ (exchange 30 K.VerifyStation 0
-    ++ ((at-slave 5033 (act (setNotReady true) 0) ∷ [])
-    ++ (answered true 35 K.RefreshReady 0
-    ++ ((at-slave 5038 (act (setNotReady false) 0) ∷ [])
-    ++ (exchange 40 K.RefreshReady 0
-    ++ (exchange 50 K.RefreshGo 8
+    ++ (performed 33
+    ++ ((at-slave 5039 (act (setNotReady true) 0) ∷ [])
+    ++ (repeated true 39 K.RefreshReady 0
+    ++ ((at-slave 5041 (act (setNotReady false) 0) ∷ [])
+    ++ (exchange 42 K.RefreshReady 0
+    ++ (exchange 50 K.RefreshGo 6
     ++ (at-master 60 (send 0 (1 ∷ 2 ∷ 3 ∷ 4 ∷ []))
     ∷ at-slave 5061 (deliver (frameBytes (sentFields K.Refresh false cid 60 0) (1 ∷ 2 ∷ 3 ∷ 4 ∷ [])))
     -- another entry, bytes that are no frame, and a cycle in which nothing arrived
@@ -82,7 +101,7 @@ line =
     -- a reading before the last: number 1
     ∷ at-slave 5000 (show 0)
     ∷ at-master 72 (deliver (frameBytes (sentFields K.Refresh true cid 72 0) (5 ∷ 6 ∷ 7 ∷ 8 ∷ [])))
-    ∷ at-master 80 (show 0) ∷ [])))))))))
+    ∷ at-master 80 (show 0) ∷ []))))))))))
 
 run : Run
 run = runOf (list 0x30000021) slice (list 0x30000421) slice cid clocks line
@@ -97,17 +116,17 @@ unfolding list cid slice connectionAt settingsAt isConnectionAt isNewAt areConne
 slave = record { done = refl; there = refl; role = refl }
 
 values : List L.Show
-values = L.shown true 5070 (1 ∷ 2 ∷ 3 ∷ 4 ∷ []) 13 13 ∷ L.shown false 5080 (5 ∷ 6 ∷ 7 ∷ 8 ∷ []) 14 14 ∷ []
+values = L.shown true 5070 (1 ∷ 2 ∷ 3 ∷ 4 ∷ []) 17 17 ∷ L.shown false 5080 (5 ∷ 6 ∷ 7 ∷ 8 ∷ []) 18 18 ∷ []
 
 -- both facts at once, so that the run is computed once
 abbrev told : Run → Bool × List L.Show
 told r = (r .allowed, r .shows)
 
 computed : told run ≡ (true, values)
-unfolding run line exchange answered data-of clocks at-master at-slave list cid slice values afterAll lastFrom lastOf
-    endpointAt placeOf clockStep connectionAt settingsAt isConnectionAt isNewAt areConnections isList
-    setupData controlOf hasForm hasCheckWord fieldsIn readingOfCopies readingOf headBytes withCheckWord twice
-    subBytes frameBytes isWritable bitStep bitSteps byteStep crcFrom crc
+unfolding run line performed command result exchange repeated answered data-of clocks at-master at-slave list cid slice
+    values afterAll lastFrom lastOf endpointAt placeOf clockStep connectionAt settingsAt isConnectionAt isNewAt
+    areConnections isList setupData handedOver controlOf hasForm hasCheckWord fieldsIn readingOfCopies readingOf
+    headBytes withCheckWord twice subBytes frameBytes isWritable bitStep bitSteps byteStep crcFrom crc
 computed = refl
 
 allowed : run .allowed ≡ true

@@ -7,11 +7,11 @@ use Rattle.crc.specs.Crc.{bitStep, bitSteps, byteStep, crcFrom, crc}
 use Rattle.frame.specs.Control.{controlOf, hasForm}
 use Rattle.frame.specs.Reading.{hasCheckWord, fieldsIn, readingOfCopies, readingOf}
 use Rattle.frame.specs.Writing.{headBytes, withCheckWord, twice, subBytes, frameBytes}
-use Rattle.steps.specs.Frames.{setupData}
+use Rattle.steps.specs.Frames.{setupData, handedOver}
 use Rattle.settings.specs.Lists.{connectionAt, settingsAt, isConnectionAt, isNewAt, areConnections, isList}
 use Rattle.gateway.specs.Tables.{endpointAt, placeOf, clockStep}
-use Rattle.cases.specs.Cases.{Case, edges, emptyCycles, busyReplies, requestLimits, lentSlices, loadings}
-use Rattle.cases.specs.Cases.{fullTable, connections, loadingAll, Hold, CasesHold}
+use Rattle.cases.specs.Cases.{Case, edges, emptyCycles, busyReplies, requestLimits, results, commands}
+use Rattle.cases.specs.Cases.{lentSlices, loadings, fullTable, connections, loadingAll, Hold, CasesHold}
 
 edges-hold : Hold edges
 unfolding Hold edges controlOf headBytes withCheckWord twice subBytes frameBytes bitStep bitSteps byteStep crcFrom crc
@@ -30,6 +30,17 @@ busy-hold = refl
 limits-hold : Hold requestLimits
 unfolding Hold requestLimits controlOf settingsAt
 limits-hold = refl
+
+results-hold : Hold results
+unfolding Hold results controlOf setupData handedOver connectionAt settingsAt isConnectionAt isNewAt areConnections
+    isList endpointAt clockStep
+results-hold = refl
+
+commands-hold : Hold commands
+unfolding Hold commands controlOf hasForm hasCheckWord fieldsIn readingOfCopies readingOf headBytes withCheckWord
+    twice subBytes frameBytes bitStep bitSteps byteStep crcFrom crc setupData handedOver settingsAt endpointAt placeOf
+    clockStep
+commands-hold = refl
 
 slices-hold : Hold lentSlices
 unfolding Hold lentSlices controlOf hasForm hasCheckWord fieldsIn readingOfCopies readingOf headBytes withCheckWord
@@ -63,4 +74,6 @@ cases-hold =
     both _ _ edges-hold
     (both _ _ cycles-hold
     (both _ _ busy-hold
-    (both _ _ limits-hold (both _ _ slices-hold (both _ _ loadings-hold full-holds)))))
+    (both _ _ limits-hold
+    (both _ _ results-hold
+    (both _ _ commands-hold (both _ _ slices-hold (both _ _ loadings-hold full-holds)))))))

@@ -9,6 +9,7 @@ use lib.ListN.{length, replicate}
 use Rattle.frame.specs.declared.Command.{Command}
 use Rattle.frame.specs.declared.Command.the-variants as K
 use Rattle.frame.specs.declared.Fields.{Fields}
+use Rattle.frame.specs.declared.Reading.the-variants.{Frame}
 use Rattle.words.specs.Words.{wordAt, wordBytes}
 use Rattle.frame.specs.Control.{controlOf}
 use Rattle.frame.specs.Reading as Reader
@@ -16,11 +17,12 @@ use Rattle.frame.specs.Writing.{headBytes, withCheckWord, twice, frameBytes}
 use Rattle.endpoint.specs.declared.Settings.{Settings}
 use Rattle.endpoint.specs.declared.State.{State}
 use Rattle.endpoint.specs.declared.State.the-variants.{Close, Starting, EstablishPending, Establish, ParamVerify}
-use Rattle.endpoint.specs.declared.State.the-variants.{RefreshPending, Refresh, Terminate}
+use Rattle.endpoint.specs.declared.State.the-variants.{FuncRunning, RefreshPending, Refresh, Terminate}
 use Rattle.endpoint.specs.declared.Timestamp.{Timestamp}
 use Rattle.endpoint.specs.declared.Timestamp.the-variants.{Never, At}
 use Rattle.endpoint.specs.declared.Pending.{Pending}
 use Rattle.endpoint.specs.declared.Pending.the-variants.{Nothing, Asked}
+use Rattle.endpoint.specs.declared.Queue.the-variants.{Empty}
 use Rattle.endpoint.specs.Endpoint.{Endpoint}
 use Rattle.endpoint.specs.Answers.{numberOf}
 use Rattle.endpoint.specs.Table.{rowOf}
@@ -29,17 +31,19 @@ use Rattle.endpoint.specs.Updates.{withNotReady}
 use Rattle.endpoint.specs.TCode.{tCodeOf, ccOf, slaveTime}
 use Rattle.transitions.specs.ByCall.{freshOf}
 use Rattle.steps.specs.Frames.{Written, nothing, frame, value, bytesOf, setupData, sentFields, ackFields}
-use Rattle.steps.specs.Calls.{Outcome, startOf, restartOf, sendOf, stopOf}
+use Rattle.steps.specs.Calls.{Outcome, startOf, restartOf, setResultOf, clearResultOf, commandData, invokeOf, sendOf}
+use Rattle.steps.specs.Calls.{stopOf}
 use Rattle.steps.specs.Deliveries.{deliverOf}
 use Rattle.settings.specs.Words.{settingsOf}
 use Rattle.settings.specs.Lists.{settingsAt}
 use Rattle.records.specs.declared.Record.{Record}
-use Rattle.records.specs.Records.{endpointOf, recordOf}
+use Rattle.records.specs.Records.{queueNumber, endpointOf, recordOf}
 use Rattle.gateway.specs.declared.Gateway.{Gateway}
 use Rattle.gateway.specs.Tables.{Lent, lent, blankRecord, endpointAt, atClock}
 use Rattle.gateway.specs.Loading.{loadedWith, loadedOf}
 use Rattle.gateway.specs.Calls as Entries
-use Rattle.gateway.specs.Calls.{Result, startIn, sendIn, stopIn, restartIn, setNotReadyIn, showIn, deliverIn}
+use Rattle.gateway.specs.Calls.{Result, startIn, sendIn, stopIn, restartIn, setNotReadyIn, setResultIn, clearResultIn}
+use Rattle.gateway.specs.Calls.{invokeIn, showIn, byReading, deliverIn}
 
 -- master 1/2, slave 1/3, one word each way, I = 100, R = 50, A = 50: kinds 1 to 7
 abbrev listOf : ℕ → List ℕ
@@ -59,7 +63,7 @@ ageless = settingsOf 0x0102 0x0103 0x021 100 50 0 7
 -- an endpoint in a state since some reading, with what it has measured and its ts_offset
 abbrev endpointIn : Settings → State → ℕ → ℕ → ℕ → Endpoint
 endpointIn s state since measured offset =
-    inState state (timedFrom since (withSetup Nothing measured offset 0 (freshOf s)))
+    inState state (timedFrom since (withSetup Nothing measured offset 0 Empty (freshOf s)))
 
 abbrev cid : ℕ
 cid = 0x01020103
@@ -102,6 +106,12 @@ abbrev stampIn : Written → ℕ
 stampIn nothing = 0
 stampIn (frame f body) = f .timestamp
 stampIn (value bytes) = 0
+
+-- S-Data of a frame, or what its user gets
+abbrev dataIn : Written → List ℕ
+dataIn nothing = []
+dataIn (frame f body) = body
+dataIn (value bytes) = bytes
 
 -- ---- calls, each with what a row asks of it
 -- a user's call: its number; CTRL and the timestamp written; the state and the count of requests that it leaves
@@ -304,6 +314,99 @@ after n state =
 abbrev sentAfter : ℕ → State → ℕ → Outcome
 sentAfter n state t = sendOf (after n state) t word
 
+-- ---- commands and results (document 02, note 5)
+-- two words that a master's user invokes, and two that a station's user sets
+abbrev tare : List ℕ
+tare = commandData 0x54415245 (wordBytes 5)
+
+abbrev weighed : List ℕ
+weighed = wordBytes 0x01020304 ++ wordBytes 0x05060708
+
+-- a station as in asked, with this result; of no bytes none is set
+abbrev station : Bool → State → List ℕ → Endpoint
+station notready state result =
+    setResultOf (withNotReady notready (endpointIn slaveSettings state 6000 5 0)) result .endpoint
+
+-- S-InvokeFunc there, with this timestamp, at 6,030 and as many ticks
+abbrev invoked : Endpoint → ℕ → List ℕ → Outcome
+invoked e stamp body = deliverOf e (6030 + stamp) (sentFields K.InvokeFunc false cid stamp 0) body
+
+-- once, with timestamp 10
+abbrev performed : Bool → State → List ℕ → Outcome
+performed notready state result = invoked (station notready state result) 10 tare
+
+-- what replying tells; then how many words are set, and the reply's S-Data
+abbrev performing : Outcome → List ℕ
+performing o = replying o ++ (o .endpoint .words .count ∷ dataIn (o .writes))
+
+-- a gateway of this connection alone, its last reading 1,000
+abbrev alone : Endpoint → Lent
+alone e = lent (atClock 1000 (loadedWith 1)) (recordOf e ∷ [])
+
+-- the queue (0 nothing waits, 1 a command does, 2 it is closed), how many words are handed over, and the first
+abbrev handed : Endpoint → List ℕ
+handed e = queueNumber (e .setup .queue) ∷ e .words .count ∷ wordAt (e .words .bytes) 0 ∷ []
+
+-- a call of that connection: its number, entry and count; the state, the timer's start and what is handed over that it
+-- leaves
+abbrev handing : Result → List ℕ
+handing r =
+    let e = endpointAt (r .lent) 0 in
+    numberOf (r .answer) ∷ ordinalOf (r .entry) ∷ length (bytesOf (r .writes)) ∷ rowOf (e .state) ∷ e .since
+    ∷ handed e
+
+-- a master in a state since 1,000, with an m2 of 5; with the command queued
+abbrev master : State → Endpoint
+master state = endpointIn masterSettings state 1000 5 0
+
+abbrev waiting : State → Endpoint
+waiting state = invokeOf (master state) 0x54415245 (wordBytes 5) .endpoint
+
+-- its user's invoke at 1,020 with this word and these bytes
+abbrev invoking : Endpoint → ℕ → List ℕ → List ℕ
+invoking e w bytes = handing (invokeIn (alone e) 1020 0 w bytes)
+
+-- the station's user sets a result at 6,020
+abbrev setting : Endpoint → List ℕ → List ℕ
+setting e body = handing (setResultIn (alone e) 6020 0 body)
+
+-- what calling tells; then the pending request and the queue, and the S-Data written
+abbrev commanding : Outcome → List ℕ
+commanding o =
+    calling o
+    ++ (pendingOf (o .endpoint .setup .pending) ∷ queueNumber (o .endpoint .setup .queue) ∷ dataIn (o .writes))
+
+-- the command sent at 1,010
+abbrev commanded : Endpoint
+commanded = sendOf (waiting ParamVerify) 1010 [] .endpoint
+
+-- its reply at 1,030 as the reader hands it on: Busy, Error, timestamp and S-Data
+abbrev answered : Bool → Bool → ℕ → List ℕ → Result
+answered busy error stamp body =
+    byReading (alone commanded) 1030 248 body (Frame (ackFields K.InvokeFunc busy error cid stamp) 0 (length body))
+
+-- the result in bytes
+abbrev resultBytes : List ℕ
+resultBytes = frameBytes (ackFields K.InvokeFunc false false cid 1010) weighed
+
+-- its number, entry and count; the state, the timer's start, m2, the pending request and the queue that it leaves; the
+-- bytes written
+abbrev hearingIn : Result → List ℕ
+hearingIn r =
+    let e = endpointAt (r .lent) 0 in
+    numberOf (r .answer) ∷ ordinalOf (r .entry) ∷ length (bytesOf (r .writes)) ∷ rowOf (e .state) ∷ e .since
+    ∷ e .setup .measured ∷ pendingOf (e .setup .pending) ∷ queueNumber (e .setup .queue) ∷ bytesOf (r .writes)
+
+-- the endpoint that it leaves
+abbrev answeredBy : Result → Endpoint
+answeredBy r = endpointAt (r .lent) 0
+
+-- S-RefreshReady sent at 1,010, and answered Busy at 1,030
+abbrev readyGone : Endpoint
+readyGone =
+    deliverOf (sendOf (master ParamVerify) 1010 [] .endpoint) 1030 (ackFields K.RefreshReady true false cid 1010)
+    zeroWord .endpoint
+
 pub record Case : Type 0 where
   pub given : List ℕ
   pub stated : List ℕ
@@ -423,6 +526,148 @@ requestLimits =
     ∷ row (calling (startOf (after 45 Close) 1010)) (0 ∷ 0 ∷ 0 ∷ rowOf Starting ∷ 0 ∷ [])
     ∷ []
 
+-- ---- note 5
+unfoldable pub results : List Case
+results =
+    -- no result: Busy, the words repeated; it leads to FuncRunning all the same, and the timer runs from the reply
+    row (performing (performed false ParamVerify []))
+    (0 ∷ 0x03C40000 ∷ 10 ∷ rowOf FuncRunning ∷ 6040 ∷ 5 ∷ 10 ∷ 0 ∷ tare)
+    -- a result of the request's length is the reply, and stays set
+    ∷ row (performing (performed false ParamVerify weighed))
+    (0 ∷ 0x03840000 ∷ 10 ∷ rowOf FuncRunning ∷ 6040 ∷ 5 ∷ 10 ∷ 2 ∷ weighed)
+    -- one of another length: Busy
+    ∷ row (performing (performed false ParamVerify word))
+    (0 ∷ 0x03C40000 ∷ 10 ∷ rowOf FuncRunning ∷ 6040 ∷ 5 ∷ 10 ∷ 1 ∷ tare)
+    -- again in FuncRunning: Busy; the same result answers a later command; once it is cleared, Busy
+    ∷ row (performing (invoked (performed false ParamVerify [] .endpoint) 20 tare))
+    (0 ∷ 0x03C40000 ∷ 20 ∷ rowOf FuncRunning ∷ 6050 ∷ 5 ∷ 20 ∷ 0 ∷ tare)
+    ∷ row (performing (invoked (performed false ParamVerify weighed .endpoint) 20 weighed))
+    (0 ∷ 0x03840000 ∷ 20 ∷ rowOf FuncRunning ∷ 6050 ∷ 5 ∷ 20 ∷ 2 ∷ weighed)
+    ∷ row (performing (invoked (clearResultOf (performed false ParamVerify weighed .endpoint) .endpoint) 20 tare))
+    (0 ∷ 0x03C40000 ∷ 20 ∷ rowOf FuncRunning ∷ 6050 ∷ 5 ∷ 20 ∷ 0 ∷ tare)
+    -- the same frame again: 13
+    ∷ row (performing (invoked (performed false ParamVerify weighed .endpoint) 10 tare))
+    (13 ∷ 0 ∷ 0 ∷ rowOf FuncRunning ∷ 6040 ∷ 5 ∷ 10 ∷ 2 ∷ [])
+    -- 1 to 25 words pass
+    ∷ row (performing (invoked (station false ParamVerify []) 10 word))
+    (0 ∷ 0x03C40000 ∷ 10 ∷ rowOf FuncRunning ∷ 6040 ∷ 5 ∷ 10 ∷ 0 ∷ word)
+    ∷ row (performing (invoked (station false ParamVerify (replicate 100 9)) 10 (replicate 100 1)))
+    (0 ∷ 0x03840000 ∷ 10 ∷ rowOf FuncRunning ∷ 6040 ∷ 5 ∷ 10 ∷ 25 ∷ replicate 100 9)
+    -- "not ready" has no say
+    ∷ row (performing (performed true ParamVerify weighed))
+    (0 ∷ 0x03840000 ∷ 10 ∷ rowOf FuncRunning ∷ 6040 ∷ 5 ∷ 10 ∷ 2 ∷ weighed)
+    -- in other states: 11
+    ∷ row (performing (performed false Establish weighed)) (11 ∷ 0 ∷ 0 ∷ rowOf Establish ∷ 6000 ∷ 5 ∷ 0 ∷ 2 ∷ [])
+    ∷ row (performing (performed false RefreshPending weighed))
+    (11 ∷ 0 ∷ 0 ∷ rowOf RefreshPending ∷ 6000 ∷ 5 ∷ 0 ∷ 2 ∷ [])
+    ∷ row (performing (performed false Terminate weighed)) (11 ∷ 0 ∷ 0 ∷ rowOf Terminate ∷ 6000 ∷ 5 ∷ 0 ∷ 2 ∷ [])
+    -- S-RefreshReady leaves FuncRunning as it leaves ParamVerify: not ready, Busy, and it stays there; ready, it fixes
+    -- s2; unequal contents, 16; and FuncRunning takes no earlier command
+    ∷ row (replying (askedRight FuncRunning K.RefreshReady))
+    (0 ∷ 0xFCC40000 ∷ 10 ∷ rowOf FuncRunning ∷ 6040 ∷ 5 ∷ 10 ∷ [])
+    ∷ row (replying (asked false FuncRunning K.RefreshReady zeroWord))
+    (0 ∷ 0xFC840000 ∷ 10 ∷ rowOf RefreshPending ∷ 6040 ∷ 6040 ∷ 10 ∷ [])
+    ∷ row (replying (asked false FuncRunning K.RefreshReady word))
+    (16 ∷ 0xFCA40000 ∷ 10 ∷ rowOf Terminate ∷ 6000 ∷ 5 ∷ 10 ∷ [])
+    ∷ row (replying (askedRight FuncRunning K.VerifyStation)) (11 ∷ 0 ∷ 0 ∷ rowOf FuncRunning ∷ 6000 ∷ 5 ∷ 0 ∷ [])
+    -- a result is set in any state, of 1 to 25 words; a later one replaces it; the timer is not restarted
+    ∷ row (setting (station false Close []) weighed) (0 ∷ 1 ∷ 0 ∷ rowOf Close ∷ 6000 ∷ 0 ∷ 2 ∷ 0x01020304 ∷ [])
+    ∷ row (setting (station false ParamVerify weighed) (replicate 100 9))
+    (0 ∷ 1 ∷ 0 ∷ rowOf ParamVerify ∷ 6000 ∷ 0 ∷ 25 ∷ 0x09090909 ∷ [])
+    -- 0 bytes, 104, or no whole words: 12, and the one before stays; a master's: 11, before 12
+    ∷ row (setting (station false Close weighed) []) (12 ∷ 1 ∷ 0 ∷ rowOf Close ∷ 6000 ∷ 0 ∷ 2 ∷ 0x01020304 ∷ [])
+    ∷ row (setting (station false Close weighed) (replicate 104 9))
+    (12 ∷ 1 ∷ 0 ∷ rowOf Close ∷ 6000 ∷ 0 ∷ 2 ∷ 0x01020304 ∷ [])
+    ∷ row (setting (station false Close weighed) (9 ∷ [])) (12 ∷ 1 ∷ 0 ∷ rowOf Close ∷ 6000 ∷ 0 ∷ 2 ∷ 0x01020304 ∷ [])
+    ∷ row (setting (master Close) []) (11 ∷ 1 ∷ 0 ∷ rowOf Close ∷ 1000 ∷ 0 ∷ 0 ∷ 0 ∷ [])
+    -- none set, to clear it is done all the same; a master's: 11
+    ∷ row (handing (clearResultIn (alone (station false Close [])) 6020 0))
+    (0 ∷ 1 ∷ 0 ∷ rowOf Close ∷ 6000 ∷ 0 ∷ 0 ∷ 0 ∷ [])
+    ∷ row (handing (clearResultIn (alone (master Close)) 6020 0)) (11 ∷ 1 ∷ 0 ∷ rowOf Close ∷ 1000 ∷ 0 ∷ 0 ∷ 0 ∷ [])
+    -- a result stays after stop, after an end by 9 and after restart; after loading it is unset
+    ∷ row (handing (stopIn (alone (station false ParamVerify weighed)) 6020 248 0))
+    (0 ∷ 1 ∷ 0 ∷ rowOf Terminate ∷ 6000 ∷ 0 ∷ 2 ∷ 0x01020304 ∷ [])
+    ∷ row (handing (setResultIn (alone (station false ParamVerify weighed)) 6051 0 (replicate 100 9)))
+    (9 ∷ 1 ∷ 0 ∷ rowOf Terminate ∷ 6000 ∷ 0 ∷ 2 ∷ 0x01020304 ∷ [])
+    ∷ row (handing (restartIn (alone (station false Terminate weighed)) 6051 0))
+    (0 ∷ 1 ∷ 0 ∷ rowOf Close ∷ 6000 ∷ 0 ∷ 2 ∷ 0x01020304 ∷ [])
+    ∷ row (handed (endpointAt (loadedOf (listOf 0x30000421) (recordOf (station false Close weighed) ∷ []) .lent) 0))
+    (0 ∷ 0 ∷ 0 ∷ [])
+    ∷ []
+
+unfoldable pub commands : List Case
+commands =
+    -- CTRL of the request, of its reply and of its Busy reply; Busy in a request: 7; the next Cmd is unlisted
+    case (formOf 0x03000000) 0
+    ∷ case (formOf 0x03840000) 0
+    ∷ case (formOf 0x03C40000) 0
+    ∷ case (formOf 0x03400000) 7
+    ∷ case (formOf 0x04000000) 7
+    -- invoke in setup: the command waits, nothing is written, and the timer is not restarted; so too while a request is
+    -- pending
+    ∷ row (invoking (master Starting) 7 []) (0 ∷ 1 ∷ 0 ∷ rowOf Starting ∷ 1000 ∷ 1 ∷ 1 ∷ 7 ∷ [])
+    ∷ row (invoking (withPending (Asked 1000) (master Establish)) 7 word)
+    (0 ∷ 1 ∷ 0 ∷ rowOf Establish ∷ 1000 ∷ 1 ∷ 2 ∷ 7 ∷ [])
+    -- in Close, in Refresh and at a slave: 11, before 12
+    ∷ row (invoking (master Close) 7 []) (11 ∷ 1 ∷ 0 ∷ rowOf Close ∷ 1000 ∷ 0 ∷ 0 ∷ 0 ∷ [])
+    ∷ row (invoking (master Refresh) 7 (replicate 100 1)) (11 ∷ 1 ∷ 0 ∷ rowOf Refresh ∷ 1000 ∷ 0 ∷ 0 ∷ 0 ∷ [])
+    ∷ row (invoking (station false ParamVerify weighed) 7 [])
+    (11 ∷ 1 ∷ 0 ∷ rowOf ParamVerify ∷ 6000 ∷ 0 ∷ 2 ∷ 0x01020304 ∷ [])
+    -- a second one while the first waits, is sent, or was answered Busy: 11, and the first stays
+    ∷ row (invoking (waiting Starting) 7 []) (11 ∷ 1 ∷ 0 ∷ rowOf Starting ∷ 1000 ∷ 1 ∷ 2 ∷ 0x54415245 ∷ [])
+    ∷ row (invoking commanded 7 []) (11 ∷ 1 ∷ 0 ∷ rowOf ParamVerify ∷ 1010 ∷ 1 ∷ 2 ∷ 0x54415245 ∷ [])
+    ∷ row (handing (invokeIn (answered true false 1010 tare .lent) 1040 0 7 []))
+    (11 ∷ 1 ∷ 0 ∷ rowOf ParamVerify ∷ 1030 ∷ 1 ∷ 2 ∷ 0x54415245 ∷ [])
+    -- 0 to 24 words beside the command word pass: 96 bytes; with 97, 100 or 1: 12
+    ∷ row (invoking (master Starting) 7 (replicate 96 1)) (0 ∷ 1 ∷ 0 ∷ rowOf Starting ∷ 1000 ∷ 1 ∷ 25 ∷ 7 ∷ [])
+    ∷ row (invoking (master Starting) 7 (replicate 97 1)) (12 ∷ 1 ∷ 0 ∷ rowOf Starting ∷ 1000 ∷ 0 ∷ 0 ∷ 0 ∷ [])
+    ∷ row (invoking (master Starting) 7 (replicate 100 1)) (12 ∷ 1 ∷ 0 ∷ rowOf Starting ∷ 1000 ∷ 0 ∷ 0 ∷ 0 ∷ [])
+    ∷ row (invoking (master Starting) 7 (1 ∷ [])) (12 ∷ 1 ∷ 0 ∷ rowOf Starting ∷ 1000 ∷ 0 ∷ 0 ∷ 0 ∷ [])
+    -- earlier requests go first; the send that would write S-RefreshReady writes the command, and counts it
+    ∷ row (commanding (sendOf (waiting Establish) 1010 []))
+    (0 ∷ 0x02000000 ∷ 1010 ∷ rowOf Establish ∷ 1 ∷ 1010 ∷ 1 ∷ wordBytes 7)
+    ∷ row (commanding (sendOf (waiting ParamVerify) 1010 []))
+    (0 ∷ 0x03000000 ∷ 1010 ∷ rowOf ParamVerify ∷ 1 ∷ 1010 ∷ 1 ∷ tare)
+    -- its reply without Busy: the words go to the output, whatever they are; the setup does not advance, m2 is not
+    -- fixed, and nothing waits
+    ∷ row (hearingIn (answered false false 1010 weighed))
+    (0 ∷ 1 ∷ 8 ∷ rowOf ParamVerify ∷ 1030 ∷ 5 ∷ 0 ∷ 0 ∷ weighed)
+    ∷ row (hearingIn (deliverIn (alone commanded) 1030 248 resultBytes))
+    (0 ∷ 1 ∷ 8 ∷ rowOf ParamVerify ∷ 1030 ∷ 5 ∷ 0 ∷ 0 ∷ weighed)
+    -- then another may be queued; else the next send writes S-RefreshReady
+    ∷ row (handing (invokeIn (answered false false 1010 weighed .lent) 1040 0 7 []))
+    (0 ∷ 1 ∷ 0 ∷ rowOf ParamVerify ∷ 1030 ∷ 1 ∷ 1 ∷ 7 ∷ [])
+    ∷ row (commanding (sendOf (answeredBy (answered false false 1010 weighed)) 1040 []))
+    (0 ∷ 0xFC000000 ∷ 1040 ∷ rowOf ParamVerify ∷ 2 ∷ 1040 ∷ 2 ∷ zeroWord)
+    -- with Busy and the same words: nothing is written, and the command is due again with a new timestamp
+    ∷ row (hearingIn (answered true false 1010 tare)) (0 ∷ 1 ∷ 0 ∷ rowOf ParamVerify ∷ 1030 ∷ 5 ∷ 0 ∷ 1 ∷ [])
+    ∷ row (commanding (sendOf (answeredBy (answered true false 1010 tare)) 1040 []))
+    (0 ∷ 0x03000000 ∷ 1040 ∷ rowOf ParamVerify ∷ 2 ∷ 1040 ∷ 1 ∷ tare)
+    -- Busy with other words, or Error: 16, nothing is written, and the command is gone
+    ∷ row (hearingIn (answered true false 1010 weighed)) (16 ∷ 1 ∷ 0 ∷ rowOf Terminate ∷ 1010 ∷ 5 ∷ 1010 ∷ 0 ∷ [])
+    ∷ row (hearingIn (answered false true 1010 weighed)) (16 ∷ 1 ∷ 0 ∷ rowOf Terminate ∷ 1010 ∷ 5 ∷ 1010 ∷ 0 ∷ [])
+    -- of another length: 12, before 13; with another timestamp: 13; another command's reply: 11
+    ∷ row (hearingIn (answered false false 1009 word)) (12 ∷ 1 ∷ 0 ∷ rowOf ParamVerify ∷ 1010 ∷ 5 ∷ 1010 ∷ 1 ∷ [])
+    ∷ row (hearingIn (answered true false 1010 word)) (12 ∷ 1 ∷ 0 ∷ rowOf ParamVerify ∷ 1010 ∷ 5 ∷ 1010 ∷ 1 ∷ [])
+    ∷ row (hearingIn (answered false false 1009 weighed)) (13 ∷ 1 ∷ 0 ∷ rowOf ParamVerify ∷ 1010 ∷ 5 ∷ 1010 ∷ 1 ∷ [])
+    ∷ row (hearing (deliverOf commanded 1030 (ackFields K.RefreshReady false false cid 1010) zeroWord))
+    (11 ∷ rowOf ParamVerify ∷ 1010 ∷ 5 ∷ 1010 ∷ [])
+    -- once S-RefreshReady has gone since start: 11, also when it was answered Busy
+    ∷ row (invoking (sendOf (master ParamVerify) 1010 [] .endpoint) 7 [])
+    (11 ∷ 1 ∷ 0 ∷ rowOf ParamVerify ∷ 1010 ∷ 2 ∷ 0 ∷ 0 ∷ [])
+    ∷ row (handing (invokeIn (alone readyGone) 1040 0 7 [])) (11 ∷ 1 ∷ 0 ∷ rowOf ParamVerify ∷ 1030 ∷ 2 ∷ 0 ∷ 0 ∷ [])
+    -- the connection's end: by stop, by 9 in whatever call, by 19; nothing waits then, nor after the next start
+    ∷ row (commanding (stopOf (waiting ParamVerify) 1010))
+    (0 ∷ 0xF9000000 ∷ 1010 ∷ rowOf Terminate ∷ 0 ∷ 0 ∷ 0 ∷ zeroWord)
+    ∷ row (handing (deliverIn (alone (waiting ParamVerify)) 1051 248 []))
+    (0 ∷ 0 ∷ 0 ∷ rowOf Terminate ∷ 1000 ∷ 0 ∷ 2 ∷ 0x54415245 ∷ [])
+    ∷ row (handing (invokeIn (alone (waiting ParamVerify)) 1051 0 7 []))
+    (9 ∷ 1 ∷ 0 ∷ rowOf Terminate ∷ 1000 ∷ 0 ∷ 2 ∷ 0x54415245 ∷ [])
+    ∷ row (commanding (sendOf (withRequests 45 (waiting ParamVerify)) 1010 []))
+    (19 ∷ 0 ∷ 0 ∷ rowOf Terminate ∷ 45 ∷ 0 ∷ 0 ∷ [])
+    ∷ row (commanding (startOf (inState Close readyGone) 1060)) (0 ∷ 0 ∷ 0 ∷ rowOf Starting ∷ 0 ∷ 0 ∷ 0 ∷ [])
+    ∷ []
+
 -- ---- note 11
 unfoldable pub lentSlices : List Case
 lentSlices =
@@ -432,6 +677,9 @@ lentSlices =
     ∷ row (answering (stopIn short 6331 248 0)) (unchanged 2)
     ∷ row (answering (restartIn short 6331 0)) (unchanged 2)
     ∷ row (answering (setNotReadyIn short 6331 0 true)) (unchanged 2)
+    ∷ row (answering (setResultIn short 6331 0 word)) (unchanged 2)
+    ∷ row (answering (clearResultIn short 6331 0)) (unchanged 2)
+    ∷ row (answering (invokeIn short 6331 0 7 [])) (unchanged 2)
     ∷ row (answering (showIn short 6331 248 0)) (unchanged 2)
     ∷ row (answering (deliverIn short 6331 248 [])) (unchanged 2)
     ∷ row (answering (deliverIn short 6331 248 arrived)) (unchanged 2)
@@ -481,7 +729,9 @@ unfoldable pub fullTable : List Case
 fullTable = row (loadingAll 64) (0 ∷ 64 ∷ 0x013F803F ∷ []) ∷ []
 
 abbrev pub cases : List Case
-cases = edges ++ (emptyCycles ++ (busyReplies ++ (requestLimits ++ (lentSlices ++ (loadings ++ fullTable)))))
+cases =
+    edges ++ (emptyCycles ++ (busyReplies ++ (requestLimits
+    ++ (results ++ (commands ++ (lentSlices ++ (loadings ++ fullTable)))))))
 
 -- each row gives what the paper states
 unfoldable pub Hold : List Case → Type 0

@@ -1,17 +1,35 @@
--- The request due from a master, what can hold it back, and what holds a station's reply back.
-use mathlib.Core.Bool.{Bool, true, false, _&&_, not}
+-- The request due from a master, what can hold it back, whether a command may be queued, and what holds a station's
+-- reply back.
+use mathlib.Core.Bool.{Bool, true, false, _&&_, not, cond}
 use Prim.Native.Nat.{ℕ}
 use lib.Dec.{eqb, leb}
 use Rattle.frame.specs.declared.Command.{Command}
-use Rattle.frame.specs.Control.{mayBeBusy}
+use Rattle.frame.specs.declared.Command.the-variants.{InvokeFunc, RefreshReady}
+use Rattle.frame.specs.Control.{is, waitsForStation}
 use Rattle.endpoint.specs.declared.Pending.{Pending}
 use Rattle.endpoint.specs.declared.Pending.the-variants.{Nothing, Asked}
+use Rattle.endpoint.specs.declared.Queue.{Queue}
+use Rattle.endpoint.specs.declared.Queue.the-variants.{Empty, Waiting, Closed}
 use Rattle.endpoint.specs.Endpoint.{Endpoint}
 use Rattle.endpoint.specs.Table.{isSetup, requestOf}
 
+abbrev pub isWaiting : Queue → Bool
+isWaiting Empty = false
+isWaiting Waiting = true
+isWaiting Closed = false
+
+abbrev pub isEmpty : Queue → Bool
+isEmpty Empty = true
+isEmpty Waiting = false
+isEmpty Closed = false
+
+-- the queued command is due where S-RefreshReady would be: "the send that would write S-RefreshReady writes the queued one"
+abbrev pub isCommandDue : Endpoint → Bool
+isCommandDue e = isWaiting (e .setup .queue) && is (requestOf (e .state)) RefreshReady
+
 -- the request due from a master: the one that it sends next, or that is pending
 abbrev pub requestDue : Endpoint → Command
-requestDue e = requestOf (e .state)
+requestDue e = cond (isCommandDue e) InvokeFunc (requestOf (e .state))
 
 abbrev pub isPending : Pending → Bool
 isPending Nothing = false
@@ -34,6 +52,10 @@ requestLimit = 45
 abbrev pub isExhausted : Endpoint → Bool
 isExhausted e = leb requestLimit (e .setup .requests)
 
+-- a master's user may queue a command in setup, one at a time, until S-RefreshReady has gone
+abbrev pub mayQueue : Endpoint → Bool
+mayQueue e = not (e .settings .slave) && (isSetup (e .state) && isEmpty (e .setup .queue))
+
 -- a station that is not ready answers S-InitConfirmNetPrm, S-InitVerifyStnPrm and S-RefreshReady with Busy 1
-abbrev pub isBusy : Endpoint → Command → Bool
-isBusy e k = e .station .notready && mayBeBusy k
+abbrev pub isHeldBack : Endpoint → Command → Bool
+isHeldBack e k = e .station .notready && waitsForStation k

@@ -1,5 +1,6 @@
--- An endpoint as the definitions have it: all that a connection keeps, with the value that it holds. In memory it is a
--- record (the crate records); the code hands on by value its core, which is all but the bytes of the value.
+-- An endpoint as the definitions have it: all that a connection keeps, with the value that it holds and the words that
+-- its user has handed over. In memory it is a record (the crate records); the code hands on by value its core, which is
+-- all but the bytes of these two.
 use mathlib.Core.Bool.{Bool}
 use mathlib.Core.List.{List}
 use Prim.Native.Nat.{ℕ}
@@ -16,6 +17,12 @@ pub record Value : Type 0 where
   pub taken : Bool
   pub bytes : List ℕ
 
+-- S-Data that its user has handed over: at a master the queued command, at a slave the station's result, 0 words where
+-- none is set; from the front of the bytes
+pub record Words : Type 0 where
+  pub count : ℕ
+  pub bytes : List ℕ
+
 pub record Endpoint : Type 0 where
   pub settings : Settings
   pub state : State
@@ -24,13 +31,17 @@ pub record Endpoint : Type 0 where
   pub timestamps : Timestamps
   pub setup : Setup
   pub station : Station
+  pub words : Words
   pub value : Value
 
 -- the fail-safe value
 abbrev pub noBytes : List ℕ
 noBytes = replicate 100 0
 
--- the core of an endpoint, and the endpoint of a core, the bytes of its value left out
+abbrev pub wordsOf : ℕ → List ℕ → Words
+wordsOf count bytes = record { count = count; bytes = bytes }
+
+-- the core of an endpoint, and the endpoint of a core, the bytes of its value and of its words left out
 abbrev pub coreOf : Endpoint → Core
 coreOf e = record {
   settings = e .settings;
@@ -39,6 +50,7 @@ coreOf e = record {
   timestamps = e .timestamps;
   setup = e .setup;
   station = e .station;
+  words = e .words .count;
   taken = e .value .taken;
 }
 
@@ -50,5 +62,6 @@ bare c = record {
   timestamps = c .timestamps;
   setup = c .setup;
   station = c .station;
+  words = wordsOf (c .words) noBytes;
   value = record { taken = c .taken; bytes = noBytes };
 }

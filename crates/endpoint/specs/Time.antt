@@ -7,12 +7,13 @@ use lib.ListN.{replicate}
 use Rattle.endpoint.specs.declared.Settings.{Settings}
 use Rattle.endpoint.specs.declared.State.{State}
 use Rattle.endpoint.specs.declared.State.the-variants.{Refresh, Terminate}
+use Rattle.endpoint.specs.declared.Queue.the-variants.{Empty}
 use Rattle.endpoint.specs.declared.Timestamp.{Timestamp}
 use Rattle.endpoint.specs.declared.Timestamp.the-variants.{Never, At}
 use Rattle.endpoint.specs.Endpoint.{Value}
 use Rattle.endpoint.specs.Endpoint.{Endpoint}
 use Rattle.endpoint.specs.Table.{isState, isSetup}
-use Rattle.endpoint.specs.Updates.{inState, holding}
+use Rattle.endpoint.specs.Updates.{inState, withQueue, holding}
 
 -- 2^48, and half of it
 abbrev pub span : ℕ
@@ -82,9 +83,9 @@ noValue = record { taken = false; bytes = replicate 100 0 }
 abbrev pub Tidy : Endpoint → Type 0
 Tidy e = e .value .taken ≡ false → e .value .bytes ≡ replicate 100 0
 
--- the connection ends: Terminate, and no value is held
+-- the connection ends: Terminate, no value is held, and no command waits
 abbrev pub endedOf : Endpoint → Endpoint
-endedOf e = inState Terminate (holding noValue e)
+endedOf e = inState Terminate (withQueue Empty (holding noValue e))
 
 -- the clock step of one endpoint
 abbrev pub afterTick : Endpoint → ℕ → Endpoint

@@ -6,31 +6,33 @@ use Rattle.endpoint.specs.declared.State.{State}
 use Rattle.endpoint.specs.declared.Timestamp.the-variants.{At}
 use Rattle.endpoint.specs.declared.Timestamps.{Timestamps}
 use Rattle.endpoint.specs.declared.Pending.{Pending}
+use Rattle.endpoint.specs.declared.Queue.{Queue}
 use Rattle.endpoint.specs.declared.Setup.{Setup}
 use Rattle.endpoint.specs.declared.Station.{Station}
-use Rattle.endpoint.specs.Endpoint.{Value}
+use Rattle.endpoint.specs.Endpoint.{Value, Words}
 use Rattle.endpoint.specs.Endpoint.{Endpoint}
 
-abbrev pub endpointOf : Settings → State → ℕ → Timestamps → Setup → Station → Value → Endpoint
-endpointOf settings state since timestamps setup station value = record {
+abbrev pub endpointOf : Settings → State → ℕ → Timestamps → Setup → Station → Words → Value → Endpoint
+endpointOf settings state since timestamps setup station words value = record {
   settings = settings;
   state = state;
   since = since;
   timestamps = timestamps;
   setup = setup;
   station = station;
+  words = words;
   value = value;
 }
 
 abbrev pub inState : State → Endpoint → Endpoint
-inState s e = endpointOf (e .settings) s (e .since) (e .timestamps) (e .setup) (e .station) (e .value)
+inState s e = endpointOf (e .settings) s (e .since) (e .timestamps) (e .setup) (e .station) (e .words) (e .value)
 
 -- its timer starts at t
 abbrev pub timedFrom : ℕ → Endpoint → Endpoint
-timedFrom t e = endpointOf (e .settings) (e .state) t (e .timestamps) (e .setup) (e .station) (e .value)
+timedFrom t e = endpointOf (e .settings) (e .state) t (e .timestamps) (e .setup) (e .station) (e .words) (e .value)
 
 abbrev pub withTimestamps : Timestamps → Endpoint → Endpoint
-withTimestamps ts e = endpointOf (e .settings) (e .state) (e .since) ts (e .setup) (e .station) (e .value)
+withTimestamps ts e = endpointOf (e .settings) (e .state) (e .since) ts (e .setup) (e .station) (e .words) (e .value)
 
 -- this timestamp is remembered as the last sent, or as the last accepted
 abbrev pub withSent : ℕ → Endpoint → Endpoint
@@ -39,29 +41,44 @@ withSent stamp e = withTimestamps (record { sent = At stamp; accepted = e .times
 abbrev pub withAccepted : ℕ → Endpoint → Endpoint
 withAccepted stamp e = withTimestamps (record { sent = e .timestamps .sent; accepted = At stamp }) e
 
-abbrev pub withSetup : Pending → ℕ → ℕ → ℕ → Endpoint → Endpoint
-withSetup pending measured offset requests e =
+abbrev pub withSetup : Pending → ℕ → ℕ → ℕ → Queue → Endpoint → Endpoint
+withSetup pending measured offset requests queue e =
     endpointOf (e .settings) (e .state) (e .since) (e .timestamps)
-    (record { pending = pending; measured = measured; offset = offset; requests = requests }) (e .station) (e .value)
+    (record { pending = pending; measured = measured; offset = offset; requests = requests; queue = queue })
+    (e .station) (e .words) (e .value)
 
 abbrev pub withPending : Pending → Endpoint → Endpoint
-withPending p e = withSetup p (e .setup .measured) (e .setup .offset) (e .setup .requests) e
+withPending p e =
+    withSetup p (e .setup .measured) (e .setup .offset) (e .setup .requests) (e .setup .queue) e
 
 -- s2 or m2, and ts_offset
 abbrev pub withMeasured : ℕ → Endpoint → Endpoint
-withMeasured n e = withSetup (e .setup .pending) n (e .setup .offset) (e .setup .requests) e
+withMeasured n e =
+    withSetup (e .setup .pending) n (e .setup .offset) (e .setup .requests) (e .setup .queue) e
 
 abbrev pub withOffset : ℕ → Endpoint → Endpoint
-withOffset n e = withSetup (e .setup .pending) (e .setup .measured) n (e .setup .requests) e
+withOffset n e =
+    withSetup (e .setup .pending) (e .setup .measured) n (e .setup .requests) (e .setup .queue) e
 
 -- so many setup requests have been written since the last start or loading
 abbrev pub withRequests : ℕ → Endpoint → Endpoint
-withRequests n e = withSetup (e .setup .pending) (e .setup .measured) (e .setup .offset) n e
+withRequests n e =
+    withSetup (e .setup .pending) (e .setup .measured) (e .setup .offset) n (e .setup .queue) e
+
+abbrev pub withQueue : Queue → Endpoint → Endpoint
+withQueue q e =
+    withSetup (e .setup .pending) (e .setup .measured) (e .setup .offset) (e .setup .requests) q e
+
+-- S-Data that its user has handed over
+abbrev pub withWords : Words → Endpoint → Endpoint
+withWords w e =
+    endpointOf (e .settings) (e .state) (e .since) (e .timestamps) (e .setup) (e .station) w (e .value)
 
 abbrev pub holding : Value → Endpoint → Endpoint
-holding v e = endpointOf (e .settings) (e .state) (e .since) (e .timestamps) (e .setup) (e .station) v
+holding v e = endpointOf (e .settings) (e .state) (e .since) (e .timestamps) (e .setup) (e .station) (e .words) v
 
 -- its user says whether the station is not ready
 abbrev pub withNotReady : Bool → Endpoint → Endpoint
 withNotReady b e =
-    endpointOf (e .settings) (e .state) (e .since) (e .timestamps) (e .setup) (record { notready = b }) (e .value)
+    endpointOf (e .settings) (e .state) (e .since) (e .timestamps) (e .setup) (record { notready = b }) (e .words)
+    (e .value)

@@ -1,21 +1,58 @@
-// The request due from a master, what can hold it back, and what holds a station's reply back.
+// The request due from a master, what can hold it back, whether a command may be queued, and what holds a station's
+// reply back.
 ghost use mathlib.Core.Path.{_≡_};
 ghost use Rattle.endpoint.specs.Endpoint.{bare};
-ghost use Rattle.endpoint.specs.Due.{requestDue, isPending, answersTo, mayRequest, isExhausted, isBusy};
+ghost use Rattle.endpoint.specs.Due.{isWaiting, isEmpty, isCommandDue, requestDue, isPending, answersTo};
+ghost use Rattle.endpoint.specs.Due.{mayRequest, isExhausted, mayQueue, isHeldBack};
 use super::Core;
 use super::Pending;
+use super::Queue;
 use super::table::is_setup;
 use super::table::request_of;
 use frame::Command;
-use frame::control::may_be_busy;
+use frame::control::is;
+use frame::control::waits_for_station;
 
 // A start writes at most so many requests.
 const REQUEST_LIMIT: u8 = 45;
+
+pub fn is_waiting(queue: Queue) -> bool
+    ensures { λ r. ⌜ r ≡ isWaiting queue ⌝ }
+{
+    match queue {
+        Queue::Empty => false,
+        Queue::Waiting => true,
+        Queue::Closed => false,
+    }
+}
+
+fn is_empty(queue: Queue) -> bool
+    ensures { λ r. ⌜ r ≡ isEmpty queue ⌝ }
+{
+    match queue {
+        Queue::Empty => true,
+        Queue::Waiting => false,
+        Queue::Closed => false,
+    }
+}
+
+// Whether the queued command stands in S-RefreshReady's place.
+pub fn is_command_due(e: Core) -> bool
+    ensures { λ r. ⌜ r ≡ isCommandDue (bare e) ⌝ }
+{
+    let state = e.state;
+    let setup = e.setup;
+    let queue = setup.queue;
+    is_waiting(queue) & is(request_of(state), Command::RefreshReady)
+}
 
 // The request that a master sends next, or that is pending.
 pub fn request_due(e: Core) -> Command
     ensures { λ r. ⌜ r ≡ requestDue (bare e) ⌝ }
 {
+    if is_command_due(e) {
+        return Command::InvokeFunc;
+    }
     let state = e.state;
     request_of(state)
 }
@@ -56,9 +93,19 @@ pub fn is_exhausted(e: Core) -> bool
     REQUEST_LIMIT <= e.setup.requests
 }
 
-// Whether a slave's reply to a command has Busy 1.
-pub fn is_busy(e: Core, k: Command) -> bool
-    ensures { λ r. ⌜ r ≡ isBusy (bare e) k ⌝ }
+// Whether a master's user may queue a command.
+pub fn may_queue(e: Core) -> bool
+    ensures { λ r. ⌜ r ≡ mayQueue (bare e) ⌝ }
 {
-    e.station.notready & may_be_busy(k)
+    let state = e.state;
+    let setup = e.setup;
+    let queue = setup.queue;
+    !e.settings.slave & (is_setup(state) & is_empty(queue))
+}
+
+// Whether a slave's reply to a command has Busy 1 because the station is not ready.
+pub fn is_held_back(e: Core, k: Command) -> bool
+    ensures { λ r. ⌜ r ≡ isHeldBack (bare e) k ⌝ }
+{
+    e.station.notready & waits_for_station(k)
 }

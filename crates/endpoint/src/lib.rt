@@ -26,13 +26,14 @@ pub struct Settings {
 }
 
 // The states of 001's table 40, for both roles. A master mirrors the slave: the matching reply moves it. Starting is
-// a master's before its first reply.
+// a master's before its first reply, FuncRunning a slave's alone.
 pub enum State {
     Close,
     Starting,
     EstablishPending,
     Establish,
     ParamVerify,
+    FuncRunning,
     RefreshPending,
     Refresh,
     Terminate,
@@ -57,6 +58,14 @@ pub enum Pending {
     Asked(u64),
 }
 
+// A master's queue for a command that its user wants sent before S-RefreshReady. Closed: S-RefreshReady has gone since
+// the last start.
+pub enum Queue {
+    Empty,
+    Waiting,
+    Closed,
+}
+
 // Setup. Measured: s2 at a slave, m2 at a master. Offset: a slave's ts_offset. Requests: how many setup requests a
 // master has written since its last start or loading, S-Disconnect aside.
 pub struct Setup {
@@ -64,6 +73,7 @@ pub struct Setup {
     pub measured: u64,
     pub offset: u64,
     pub requests: u8,
+    pub queue: Queue,
 }
 
 // What the station's user has set, unset after loading; it survives restart and Terminate. A master's is of no account.
@@ -72,7 +82,7 @@ pub struct Station {
     pub notready: bool,
 }
 
-// What the calls on a connection hand on by value: all that it keeps, but for the bytes of its value.
+// What the calls on a connection hand on by value: all that it keeps, but for the bytes of its value and of its words.
 pub struct Core {
     pub settings: Settings,
     pub state: State,
@@ -81,6 +91,8 @@ pub struct Core {
     pub timestamps: Timestamps,
     pub setup: Setup,
     pub station: Station,
+    // how many words of S-Data its user has handed over: a master's queued command, a station's result, 0 for none
+    pub words: u8,
     // whether a value was accepted in this Refresh
     pub taken: bool,
 }

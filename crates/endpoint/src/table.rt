@@ -6,11 +6,12 @@ use super::Next;
 use super::State;
 use frame::Command;
 
-// In each row: Connect, ConfirmNetwork, VerifyStation, RefreshReady, RefreshGo, Refresh, Disconnect. Beside what leads
-// somewhere its transition in table 40, or 01 where document 01 alone has it.
-const NEXT: [Next; 56] = [
+// In each row: Connect, ConfirmNetwork, VerifyStation, InvokeFunc, RefreshReady, RefreshGo, Refresh, Disconnect. Beside
+// what leads somewhere its transition in table 40, or 01 where document 01 alone has it.
+const NEXT: [Next; 72] = [
     // Close
     Next::To(State::EstablishPending), // ST1
+    Next::No,
     Next::No,
     Next::No,
     Next::No,
@@ -24,10 +25,12 @@ const NEXT: [Next; 56] = [
     Next::No,
     Next::No,
     Next::No,
+    Next::No,
     Next::To(State::Terminate), // 01
     // EstablishPending
     Next::To(State::EstablishPending), // ST25
     Next::To(State::Establish), // ST2
+    Next::No,
     Next::No,
     Next::No,
     Next::No,
@@ -40,12 +43,23 @@ const NEXT: [Next; 56] = [
     Next::No,
     Next::No,
     Next::No,
+    Next::No,
     Next::To(State::Terminate), // 01
     // ParamVerify
     Next::No,
     Next::No,
     Next::No,
+    Next::To(State::FuncRunning), // ST7, ST8
     Next::To(State::RefreshPending), // ST6
+    Next::No,
+    Next::No,
+    Next::To(State::Terminate), // 01
+    // FuncRunning, a slave's alone
+    Next::No,
+    Next::No,
+    Next::No,
+    Next::To(State::FuncRunning), // ST10, ST11
+    Next::To(State::RefreshPending), // ST12
     Next::No,
     Next::No,
     Next::To(State::Terminate), // 01
@@ -54,10 +68,12 @@ const NEXT: [Next; 56] = [
     Next::No,
     Next::No,
     Next::No,
+    Next::No,
     Next::To(State::Refresh), // ST14
     Next::No,
     Next::To(State::Terminate), // 01
     // Refresh
+    Next::No,
     Next::No,
     Next::No,
     Next::No,
@@ -73,11 +89,12 @@ const NEXT: [Next; 56] = [
     Next::No,
     Next::No,
     Next::No,
+    Next::No,
 ];
 
 // A state's row.
 fn row(s: State) -> usize
-    ensures { λ r. ⌜ (r ≡ rowOf s) × (r < 8) ⌝ }
+    ensures { λ r. ⌜ (r ≡ rowOf s) × (r < 9) ⌝ }
 {
     match s {
         State::Close => 0,
@@ -85,24 +102,26 @@ fn row(s: State) -> usize
         State::EstablishPending => 2,
         State::Establish => 3,
         State::ParamVerify => 4,
-        State::RefreshPending => 5,
-        State::Refresh => 6,
-        State::Terminate => 7,
+        State::FuncRunning => 5,
+        State::RefreshPending => 6,
+        State::Refresh => 7,
+        State::Terminate => 8,
     }
 }
 
 // A command's column.
 fn column(k: Command) -> usize
-    ensures { λ r. ⌜ (r ≡ columnOf k) × (r < 7) ⌝ }
+    ensures { λ r. ⌜ (r ≡ columnOf k) × (r < 8) ⌝ }
 {
     match k {
         Command::Connect => 0,
         Command::ConfirmNetwork => 1,
         Command::VerifyStation => 2,
-        Command::RefreshReady => 3,
-        Command::RefreshGo => 4,
-        Command::Refresh => 5,
-        Command::Disconnect => 6,
+        Command::InvokeFunc => 3,
+        Command::RefreshReady => 4,
+        Command::RefreshGo => 5,
+        Command::Refresh => 6,
+        Command::Disconnect => 7,
     }
 }
 
@@ -122,6 +141,7 @@ pub fn is_setup(s: State) -> bool
         State::EstablishPending => true,
         State::Establish => true,
         State::ParamVerify => true,
+        State::FuncRunning => true,
         State::RefreshPending => true,
         State::Refresh => false,
         State::Terminate => false,
@@ -132,7 +152,7 @@ pub fn is_setup(s: State) -> bool
 pub fn next_state(k: Command, s: State) -> Next
     ensures { λ r. ⌜ r ≡ nextOf k s ⌝ }
 {
-    let i = row(s) * 7 + column(k);
+    let i = row(s) * 8 + column(k);
     NEXT[i]
 }
 
@@ -164,6 +184,7 @@ pub fn request_of(s: State) -> Command
         State::EstablishPending => Command::ConfirmNetwork,
         State::Establish => Command::VerifyStation,
         State::ParamVerify => Command::RefreshReady,
+        State::FuncRunning => Command::RefreshReady,
         State::RefreshPending => Command::RefreshGo,
         State::Refresh => Command::Connect,
         State::Terminate => Command::Connect,

@@ -5,6 +5,7 @@ ghost use Rattle.endpoint.specs.Endpoint.{bare, coreOf};
 ghost use Rattle.endpoint.specs.Time.{minus, masterTime, isAbove, isTooFarAhead, allowanceOf, isTooLate};
 ghost use Rattle.endpoint.specs.Time.{offsetFrom, isOver, isExpired, endedOf, afterTick, timeOf, ageOf};
 use super::Core;
+use super::Queue;
 use super::Settings;
 use super::State;
 use super::Timestamp;
@@ -12,6 +13,7 @@ use super::t_code::slave_time;
 use super::table::is_setup;
 use super::table::is_state;
 use super::updates::in_state;
+use super::updates::with_queue;
 use frame::TIMESTAMP_MODULUS;
 
 // The highest clock reading: 2^48 - 65,537.
@@ -120,11 +122,11 @@ pub fn expired(e: Core, clock: u64) -> bool
     )
 }
 
-// The endpoint in Terminate, with no value held.
+// The endpoint in Terminate, with no value held and no command waiting.
 pub fn ended(e: Core) -> Core
     ensures { λ r. ⌜ r ≡ coreOf (endedOf (bare e)) ⌝ }
 {
-    let mut next = in_state(State::Terminate, e);
+    let mut next = in_state(State::Terminate, with_queue(Queue::Empty, e));
     next.taken = false;
     next
 }

@@ -1,9 +1,10 @@
 // A core with a part of it changed that is an enum, the others as they were. Other parts are stored to in place.
 ghost use mathlib.Core.Path.{_≡_};
 ghost use Rattle.endpoint.specs.Endpoint.{bare, coreOf};
-ghost use Rattle.endpoint.specs.Updates.{inState, withSent, withAccepted, withPending};
+ghost use Rattle.endpoint.specs.Updates.{inState, withSent, withAccepted, withPending, withQueue};
 use super::Core;
 use super::Pending;
+use super::Queue;
 use super::Setup;
 use super::State;
 use super::Timestamp;
@@ -23,6 +24,7 @@ pub fn in_state(state: State, e: Core) -> Core
         timestamps: timestamps,
         setup: setup,
         station: station,
+        words: e.words,
         taken: e.taken,
     }
 }
@@ -60,11 +62,31 @@ pub fn with_accepted(stamp: u64, e: Core) -> Core
 pub fn with_pending(pending: Pending, e: Core) -> Core
     ensures { λ r. ⌜ r ≡ coreOf (withPending pending (bare e)) ⌝ }
 {
+    let setup = e.setup;
+    let queue = setup.queue;
     let changed = Setup {
         pending: pending,
-        measured: e.setup.measured,
-        offset: e.setup.offset,
-        requests: e.setup.requests,
+        measured: setup.measured,
+        offset: setup.offset,
+        requests: setup.requests,
+        queue: queue,
+    };
+    let mut next = e;
+    next.setup = changed;
+    next
+}
+
+pub fn with_queue(queue: Queue, e: Core) -> Core
+    ensures { λ r. ⌜ r ≡ coreOf (withQueue queue (bare e)) ⌝ }
+{
+    let setup = e.setup;
+    let pending = setup.pending;
+    let changed = Setup {
+        pending: pending,
+        measured: setup.measured,
+        offset: setup.offset,
+        requests: setup.requests,
+        queue: queue,
     };
     let mut next = e;
     next.setup = changed;

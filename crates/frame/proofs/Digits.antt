@@ -7,8 +7,8 @@ use lib.Arith.{digits-mod}
 use lib.Dec.{lit≤, lit<}
 use borrow.Author.Tests.{eq-eqb, ne-eqb}
 use Rattle.frame.specs.declared.Command.{Command}
-use Rattle.frame.specs.declared.Command.the-variants.{Connect, ConfirmNetwork, VerifyStation, Disconnect}
-use Rattle.frame.specs.declared.Command.the-variants.{RefreshReady, RefreshGo, Refresh}
+use Rattle.frame.specs.declared.Command.the-variants.{Connect, ConfirmNetwork, VerifyStation, InvokeFunc}
+use Rattle.frame.specs.declared.Command.the-variants.{Disconnect, RefreshReady, RefreshGo, Refresh}
 use Rattle.frame.specs.declared.Subconnection.{Subconnection}
 use Rattle.frame.specs.declared.Subconnection.the-variants.{Absent, Number}
 use Rattle.frame.specs.declared.Fields.{Fields}
@@ -22,6 +22,7 @@ code-le : (k : Command) → codeOf k ≤ 255
 code-le Connect = lit≤ tt
 code-le ConfirmNetwork = lit≤ tt
 code-le VerifyStation = lit≤ tt
+code-le InvokeFunc = lit≤ tt
 code-le Disconnect = lit≤ tt
 code-le RefreshReady = lit≤ tt
 code-le RefreshGo = lit≤ tt
@@ -31,6 +32,7 @@ pub command-of-code : (k : Command) → commandOf (codeOf k) ≡ k
 command-of-code Connect = refl
 command-of-code ConfirmNetwork = refl
 command-of-code VerifyStation = refl
+command-of-code InvokeFunc = refl
 command-of-code Disconnect = refl
 command-of-code RefreshReady = refl
 command-of-code RefreshGo = refl

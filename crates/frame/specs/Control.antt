@@ -3,8 +3,8 @@ use mathlib.Core.Bool.{Bool, true, false, _&&_, _||_, not, cond, Bool·beq}
 use Prim.Native.Nat.{ℕ, _+_, _*_, _/_, _%_, _^_}
 use lib.Dec.{eqb}
 use Rattle.frame.specs.declared.Command.{Command}
-use Rattle.frame.specs.declared.Command.the-variants.{Connect, ConfirmNetwork, VerifyStation, Disconnect}
-use Rattle.frame.specs.declared.Command.the-variants.{RefreshReady, RefreshGo, Refresh}
+use Rattle.frame.specs.declared.Command.the-variants.{Connect, ConfirmNetwork, VerifyStation, InvokeFunc}
+use Rattle.frame.specs.declared.Command.the-variants.{Disconnect, RefreshReady, RefreshGo, Refresh}
 use Rattle.frame.specs.declared.Subconnection.{Subconnection}
 use Rattle.frame.specs.declared.Subconnection.the-variants.{Absent, Number}
 use Rattle.frame.specs.declared.Fields.{Fields}
@@ -14,6 +14,7 @@ abbrev pub codeOf : Command → ℕ
 codeOf Connect = 0x00
 codeOf ConfirmNetwork = 0x01
 codeOf VerifyStation = 0x02
+codeOf InvokeFunc = 0x03
 codeOf Disconnect = 0xF9
 codeOf RefreshReady = 0xFC
 codeOf RefreshGo = 0xFE
@@ -25,9 +26,10 @@ commandOf code =
     cond (eqb code 0x00) Connect
     (cond (eqb code 0x01) ConfirmNetwork
     (cond (eqb code 0x02) VerifyStation
+    (cond (eqb code 0x03) InvokeFunc
     (cond (eqb code 0xF9) Disconnect
     (cond (eqb code 0xFC) RefreshReady
-    (cond (eqb code 0xFE) RefreshGo Refresh)))))
+    (cond (eqb code 0xFE) RefreshGo Refresh))))))
 
 abbrev pub is : Command → Command → Bool
 is a b = eqb (codeOf a) (codeOf b)
@@ -72,9 +74,13 @@ ackFits f = not (f .ack) || not (is (f .command) Refresh || is (f .command) Disc
 abbrev pub applicationFits : Fields → Bool
 applicationFits f = is (f .command) Refresh || Bool·beq (f .application) (f .ack)
 
--- the commands whose reply may say that the station is not ready (document 02, note 2)
+-- the commands whose reply a station that is not ready holds back (document 02, note 2)
+abbrev pub waitsForStation : Command → Bool
+waitsForStation k = is k ConfirmNetwork || (is k VerifyStation || is k RefreshReady)
+
+-- the commands whose reply may have Busy 1: these, and S-InvokeFunc while work is in progress (note 5)
 abbrev pub mayBeBusy : Command → Bool
-mayBeBusy k = is k ConfirmNetwork || (is k VerifyStation || is k RefreshReady)
+mayBeBusy k = waitsForStation k || is k InvokeFunc
 
 -- Busy may be 1 in those replies only
 abbrev pub busyFits : Fields → Bool

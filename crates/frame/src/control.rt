@@ -2,7 +2,7 @@
 ghost use mathlib.Core.Path.{_≡_};
 ghost use Prim.Native.Nat.{_≤_, _<_};
 ghost use Rattle.frame.specs.Control.{codeOf, commandOf, is, subconnectionBits, subconnectionOf, isAbsent, flag};
-ghost use Rattle.frame.specs.Control.{controlOf, mayBeBusy, hasForm};
+ghost use Rattle.frame.specs.Control.{controlOf, waitsForStation, mayBeBusy, hasForm};
 use super::Command;
 use super::Fields;
 use super::Subconnection;
@@ -14,6 +14,7 @@ fn code_of(command: Command) -> u32
         Command::Connect => 0x00,
         Command::ConfirmNetwork => 0x01,
         Command::VerifyStation => 0x02,
+        Command::InvokeFunc => 0x03,
         Command::Disconnect => 0xF9,
         Command::RefreshReady => 0xFC,
         Command::RefreshGo => 0xFE,
@@ -33,6 +34,9 @@ pub(crate) fn command_of(code: u32) -> Command
     }
     if code == 0x02 {
         return Command::VerifyStation;
+    }
+    if code == 0x03 {
+        return Command::InvokeFunc;
     }
     if code == 0xF9 {
         return Command::Disconnect;
@@ -102,11 +106,18 @@ pub(crate) fn control_of(f: Fields) -> u32
                         + (flag(f.application, 262144) + subconnection_bits(subconnection))))))
 }
 
-// Whether a command's reply may have Busy 1.
-pub fn may_be_busy(k: Command) -> bool
-    ensures { λ r. ⌜ r ≡ mayBeBusy k ⌝ }
+// Whether a station that is not ready holds the command's reply back.
+pub fn waits_for_station(k: Command) -> bool
+    ensures { λ r. ⌜ r ≡ waitsForStation k ⌝ }
 {
     is(k, Command::ConfirmNetwork) | (is(k, Command::VerifyStation) | is(k, Command::RefreshReady))
+}
+
+// Whether a command's reply may have Busy 1.
+fn may_be_busy(k: Command) -> bool
+    ensures { λ r. ⌜ r ≡ mayBeBusy k ⌝ }
+{
+    waits_for_station(k) | is(k, Command::InvokeFunc)
 }
 
 // The form rule on fields.

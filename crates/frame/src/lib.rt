@@ -19,6 +19,8 @@ pub enum Command {
     ConfirmNetwork,
     // S-InitVerifyStnPrm, 0x02
     VerifyStation,
+    // S-InvokeFunc, 0x03 (document 02)
+    InvokeFunc,
     // S-Disconnect, 0xF9
     Disconnect,
     // S-RefreshReady, 0xFC

@@ -12,7 +12,8 @@ use super::control::has_form;
 use bytes::copy;
 use words::put_word;
 
-fn is_body_length(n: usize) -> bool
+// Whether S-Data can have n bytes: 1 to 25 words.
+pub fn is_body_length(n: usize) -> bool
     ensures { λ r. ⌜ r ≡ isBodyLength n ⌝ }
 {
     (4 <= n) & ((n <= 100) & (n % 4 == 0))

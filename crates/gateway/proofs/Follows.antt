@@ -1,9 +1,9 @@
 -- From what the parts of a call ensure to what the call comes to.
 use mathlib.Core.Path.{_≡_, refl, sym, ap, subst, _∙_}
-use mathlib.Core.Bool.{Bool, true, false, _&&_, not, cond, true≢false, false≢true}
+use mathlib.Core.Bool.{Bool, true, false, _&&_, cond, and-true, and-false, true≢false, false≢true}
 use mathlib.Core.List.{List, []}
 use mathlib.Mathlib.Data.Bool.Basic.{and-elim-right}
-use Prim.Native.Nat.{ℕ, _<_, _≤_}
+use Prim.Native.Nat.{ℕ}
 use native.Mathlib.Omega.{arith}
 use lib.Dec.{eqb, ltb}
 use lib.ListN.{length, take}
@@ -22,93 +22,190 @@ use Rattle.endpoint.specs.declared.Reason.the-variants as R
 use Rattle.endpoint.specs.declared.Answer.{Answer}
 use Rattle.endpoint.specs.declared.Answer.the-variants.{Done, Dropped}
 use Rattle.endpoint.specs.Answers.{isDone, isEnded}
-use Rattle.endpoint.specs.Table.{isState}
+use Rattle.endpoint.specs.Table.{isState, isSetup}
 use Rattle.endpoint.specs.Time.{isExpired, endedOf, afterTick}
-use Rattle.steps.specs.Frames.{Written, nothing, bytesOf, showWidth}
+use Rattle.steps.specs.Frames.{nothing, bytesOf, showWidth}
+use Rattle.steps.specs.Frames.{paddedOf}
 use Rattle.steps.specs.Calls.{Outcome, isFailSafe, heldOr, shownOf}
-use Rattle.steps.specs.Deliveries.{paddedOf}
 use Rattle.steps.specs.Says.{steppedOf, plainStep}
 use Rattle.steps.specs.Steps as S
-use Rattle.steps.specs.Values.{withBytes, isShow, accepts}
+use Rattle.steps.specs.Values.{withBytes, isShow, withWordBytes, handsOver, handedIn}
 use Rattle.steps.proofs.Dispatch.{cond-true, cond-false}
 use Rattle.steps.proofs.Keeps.{bcase}
+use Rattle.steps.proofs.Quiet.{by-act}
 use Rattle.records.specs.declared.Stored.{Stored}
 use Rattle.records.specs.declared.Record.{Record}
-use Rattle.records.specs.Records.{isSet, bareOf, heldIn, endpointOf}
+use Rattle.records.specs.Records.{isSet, stateFrom, bareOf, heldIn, endpointOf}
 use Rattle.gateway.specs.declared.Call.{Call}
 use Rattle.gateway.specs.declared.Called.{Called}
 use Rattle.gateway.specs.declared.Sought.{Sought}
 use Rattle.gateway.specs.declared.Picked.{Picked}
 use Rattle.gateway.specs.declared.Moved.{Moved}
-use Rattle.gateway.specs.Tables.{Lent, lent, recordAt, blankRecord, endpointAt, placeOf, clockStep, isReading}
-use Rattle.gateway.specs.Calls.{Result, admit, admitEntry, timely, refusedOf, onEntry, isShort, reasonOf, shownIn}
-use Rattle.gateway.specs.Calls.{showIn, byReading, emptyCycle, deliverIn, calledBy, calledOf, CallSays, OutputSays}
-use Rattle.gateway.specs.Parts.{picked, pickedOf, heldAt, soughtOf, spotOf, metOf, settled, valueAt, admitted}
-use Rattle.gateway.specs.Parts.{before, refusedMove, actedMove, shownMove, plainMove, outcomeMove, StepMoves}
-use Rattle.gateway.specs.Parts.{toShow, showAnswer, ShowMoves, frameAnswer, frameOutcome, acceptsValue, FrameMoves}
-use Rattle.gateway.specs.Parts.{DeliverMoves}
-use Rattle.gateway.proofs.Parts.{PickSaid, ReadSaid, SeekSaid, SettleSaid, PutSaid}
+use Rattle.gateway.specs.Tables.{Lent, lent, recordAt, blankRecord, endpointAt, placeOf, isReading}
+use Rattle.gateway.specs.Calls.{Result, admit, admitEntry, timely, refusedOf, onEntry, isShort, sendIn, stopIn}
+use Rattle.gateway.specs.Calls.{reasonOf, shownIn, showIn, byReading, emptyCycle, deliverIn, CallSays, OutputSays}
+use Rattle.gateway.specs.Parts.{withValue, withWords, valueAt, wordsAt, picked, pickedOf, heldAt, handedAt, soughtOf}
+use Rattle.gateway.specs.Parts.{spotOf, metOf, settled, admitted, before, refusedMove, actedMove, shownMove}
+use Rattle.gateway.specs.Parts.{plainMove, handedMove, outcomeMove, StepMoves, showAnswer, ShowMoves, frameOutcome}
+use Rattle.gateway.specs.Parts.{FrameMoves, DeliverMoves}
+use Rattle.gateway.proofs.Parts.{PickSaid, ReadSaid, WordsSaid, SeekSaid, SettleSaid, PutSaid, PutWordsSaid}
 use Rattle.gateway.proofs.OwnStep.{not-done}
-use Rattle.gateway.proofs.Lands.{Lands, refused-lands, entry-lands, entry-writes, entry-settles, show-settles}
+use Rattle.gateway.proofs.Lands.{keeps, Reads, Lands, refused-lands, entry-lands, entry-writes, entry-settles}
+use Rattle.gateway.proofs.Lands.{show-settles}
 
--- ---- calls that are lent no output, and write nothing
-module _ (K : Call → S.Call) (no-show : (x : Call) → isShow (K x) ≡ false)
-    (none : (x : Call) (a : Answer) → accepts (K x) a ≡ false)
-    (quiet : (e : Endpoint) (u : ℕ) (x : Call) → S.stepOf e u (K x) .writes ≡ nothing) where
-  -- what a call's own step is asked to give
+-- ---- acts, which look at no words; all but a stop write nothing
+abbrev pub isStop : S.Act → Bool
+isStop S.start = false
+isStop S.stop = true
+isStop S.restart = false
+isStop (S.setNotReady b) = false
+isStop (S.setResult body) = false
+isStop S.clearResult = false
+isStop (S.invoke word bytes) = false
+
+quiet : (e : Endpoint) (t : ℕ) (a : S.Act) → isStop a ≡ false → S.actOf e t a .writes ≡ nothing
+quiet e t =
+    by-act e t (λ a. isStop a ≡ false → S.actOf e t a .writes ≡ nothing) (λ h. absurd (true≢false h))
+    (λ a q h. q .writes)
+
+module _ (ys : List Record) (c : Call) (a : S.Act) (silent : isStop a ≡ false) where
+  abbrev entered : Picked
+  entered = pickedOf ys c
+
+  abbrev acts : Outcome
+  acts = S.actOf (bareOf (entered .stored)) (c .clock) a
+
+  abbrev moves : Moved
+  moves = outcomeMove entered (before entered false R.Entry) acts (keeps (S.act a) (acts .answer))
+
+  abbrev comes : Result
+  comes = onEntry (λ e. S.actOf e (c .clock) a) R.Entry (lent (c .gateway) ys) (c .clock) false (c .entry)
+
+  -- nothing is written
+  act-moves : (m : Moved) (kept : Bool) → m ≡ plainMove entered (before entered false R.Entry) (plainStep acts) kept
+      → kept ≡ keeps (S.act a) (acts .answer) → m ≡ moves
+  act-moves m kept e k =
+      e ∙ (λ i. cond (isDone (before entered false R.Entry)) (actedMove entered (steppedOf (acts .answer)
+      (coreOf (acts .endpoint)) (length (bytesOf (sym (quiet (bareOf (entered .stored)) (c .clock) a silent) i)))) (k i))
+      (refusedMove entered (before entered false R.Entry)))
+
+  act-lands : (m : Moved) (v : List ℕ) → m ≡ moves
+      → (keeps (S.act a) (acts .answer) ≡ true → v ≡ paddedOf (handedIn a)) → Lands ys c m (λ r. withWords r v) comes
+  act-lands m v g e =
+      subst (λ (x : Moved). Lands ys c x (λ r. withWords r v) comes) (sym g)
+      (entry-lands ys c (c .entry) (S.act a) refl noBytes (λ h. absurd (false≢true h)) false R.Entry v e)
+
+  act-settles : (m : Moved) → m ≡ moves → keeps (S.act a) (acts .answer) ≡ false → settled ys m ≡ comes .lent .records
+  act-settles m g h =
+      ap (settled ys) g
+      ∙ entry-settles ys c (c .entry) (S.act a) refl noBytes (λ h. absurd (false≢true h)) false R.Entry h
+
+-- an act that hands nothing over
+module _ (A : Call → S.Act) (silent : (x : Call) → isStop (A x) ≡ false) (none : (x : Call) → handsOver (A x) ≡ false) where
   abbrev pub PlainSaid : Picked → Moved → Type 0
   PlainSaid p m =
-      m ≡ plainMove p (before p false R.Entry) (plainStep (S.stepOf (bareOf (p .stored)) (p .call .clock) (K (p .call))))
+      m ≡ plainMove p (before p false R.Entry) (plainStep (S.actOf (bareOf (p .stored)) (p .call .clock) (A (p .call)))) false
 
   pub plain-follows : (ys : List Record) (c : Call) (p : Picked) (us : List Record) (m : Moved) (r : Called)
       (zs : List Record)
       → PickSaid ys c p us → PlainSaid p m → SettleSaid us m r zs
-      → CallSays (onEntry (λ e. S.stepOf e (c .clock) (K c)) R.Entry (lent (c .gateway) ys) (c .clock) false (c .entry)) zs r
+      → CallSays (onEntry (λ e. S.actOf e (c .clock) (A c)) R.Entry (lent (c .gateway) ys) (c .clock) false (c .entry)) zs r
   plain-follows ys c p us m r zs e₁ e₂ e₃ =
-      let n = c .entry in
-      let k = K c in
-      let q = pickedOf ys c in
-      let o = S.stepOf (bareOf (q .stored)) (c .clock) k in
-      let whole : plainMove q (before q false R.Entry) (plainStep o)
-      ≡ outcomeMove q (before q false R.Entry) o (accepts k (o .answer)) =
-      (λ i. cond (isDone (before q false R.Entry)) (actedMove q (steppedOf (o .answer) (coreOf (o .endpoint))
-      (length (bytesOf (sym (quiet (bareOf (q .stored)) (c .clock) c) i)))) (sym (none c (o .answer)) i))
-      (refusedMove q (before q false R.Entry))) in
-      let g : m ≡ outcomeMove q (before q false R.Entry) o (accepts k (o .answer)) =
-      subst (λ (x : Picked). PlainSaid x m) (e₁ .0) e₂ ∙ whole in
+      let a = A c in
+      let o = acts ys c a (silent c) in
+      let k : keeps (S.act a) (o .answer) ≡ false = ap (λ (b : Bool). isDone (o .answer) && b) (none c)
+      ∙ and-false (isDone (o .answer)) in
+      let g = act-moves ys c a (silent c) m false (subst (λ (x : Picked). PlainSaid x m) (e₁ .0) e₂) (sym k) in
       record {
-        told = e₃ .0 ∙ ap (λ (x : Moved). x .told) g
-            ∙ entry-lands ys c n k (no-show c) false R.Entry noBytes (λ h. absurd (false≢true (sym (none c (o .answer)) ∙ h))) .told;
-        left = e₃ .1 ∙ ap (λ (l : List Record). settled l m) (e₁ .1) ∙ ap (settled ys) g
-            ∙ entry-settles ys c n k (no-show c) false R.Entry (none c (o .answer));
+        told = e₃ .0 ∙ act-lands ys c a (silent c) m noBytes g (λ h. absurd (false≢true (sym k ∙ h))) .told;
+        left = e₃ .1 ∙ ap (λ (l : List Record). settled l m) (e₁ .1) ∙ act-settles ys c a (silent c) m g k;
       }
 
--- ---- calls that are lent an output
-module _ (k : S.Call) (no-show : isShow k ≡ false) (none : (a : Answer) → accepts k a ≡ false) where
-  abbrev pub OutputSaid : Picked → List ℕ → Moved → List ℕ → Type 0
-  OutputSaid p out m out′ =
-      StepMoves p (before p (isShort (length out)) R.Entry) (S.stepOf (bareOf (p .stored)) (p .call .clock) k) false out out′ m
+-- an act that hands words over, which are kept
+module _ (A : Call → List ℕ → S.Act) (silent : (x : Call) (s : List ℕ) → isStop (A x s) ≡ false)
+    (hands : (x : Call) (s : List ℕ) → handsOver (A x s) ≡ true) where
+  abbrev pub HandedSaid : Picked → List ℕ → Moved → Type 0
+  HandedSaid p s m = m ≡ handedMove p (S.actOf (bareOf (p .stored)) (p .call .clock) (A (p .call) s))
 
-  pub output-follows : (ys : List Record) (c : Call) (out : List ℕ) (p : Picked) (us : List Record) (m : Moved)
-      (out′ : List ℕ) (r : Called) (zs : List Record)
-      → PickSaid ys c p us → OutputSaid p out m out′ → SettleSaid us m r zs
+  abbrev pub MadeSaid : Call → List ℕ → List ℕ → Type 0
+  MadeSaid c s v = v ≡ paddedOf (handedIn (A c s))
+
+  pub handed-follows : (ys : List Record) (c : Call) (s : List ℕ) (p : Picked) (us : List Record) (m : Moved) (v : List ℕ)
+      (t : Called) (us₂ : List Record) (r : Called) (zs : List Record)
+      → PickSaid ys c p us → HandedSaid p s m → MadeSaid c s v → SettleSaid us m t us₂ → PutWordsSaid us₂ m v r zs
+      → CallSays (onEntry (λ e. S.actOf e (c .clock) (A c s)) R.Entry (lent (c .gateway) ys) (c .clock) false (c .entry)) zs r
+  handed-follows ys c s p us m v t us₂ r zs e₁ e₂ e e₃ e₄ =
+      let a = A c s in
+      let o = acts ys c a (silent c s) in
+      let k : isDone (o .answer) ≡ keeps (S.act a) (o .answer) = sym (and-true (isDone (o .answer)))
+      ∙ ap (λ (b : Bool). isDone (o .answer) && b) (sym (hands c s)) in
+      let g = act-moves ys c a (silent c s) m (isDone (o .answer))
+      (subst (λ (x : Picked). HandedSaid x s m) (e₁ .0) e₂) k in
+      let l = act-lands ys c a (silent c s) m v g (λ h. e) in
+      record {
+        told = e₄ .0 ∙ l .told;
+        left = e₄ .1 ∙ ap (wordsAt (m .keep) v) (e₃ .1 ∙ ap (λ (x : List Record). settled x m) (e₁ .1)) ∙ l .left;
+      }
+
+-- ---- calls that are lent an output and keep nothing, with these words
+module _ (k : S.Call) (no-show : isShow k ≡ false) (none : (a : Answer) → keeps k a ≡ false) where
+  abbrev pub OutputSaid : Picked → List ℕ → List ℕ → Moved → List ℕ → Type 0
+  OutputSaid p w out m out′ =
+      StepMoves p (before p (isShort (length out)) R.Entry)
+      (S.stepOf (withWordBytes w (bareOf (p .stored))) (p .call .clock) k) false out out′ m
+
+  output-follows : (ys : List Record) (c : Call) (w out : List ℕ) (m : Moved) (out′ : List ℕ) (r : Called)
+      (zs : List Record)
+      → Reads (recordAt ys (c .entry)) (c .clock) k no-show w → OutputSaid (pickedOf ys c) w out m out′
+      → SettleSaid ys m r zs
       → OutputSays (onEntry (λ e. S.stepOf e (c .clock) k) R.Entry (lent (c .gateway) ys) (c .clock) (isShort (length out))
       (c .entry)) zs out out′ r
-  output-follows ys c out p us m out′ r zs e₁ e₂ e₃ =
+  output-follows ys c w out m out′ r zs reads e₂ e₃ =
       let n = c .entry in
       let q = pickedOf ys c in
       let short = isShort (length out) in
-      let o = S.stepOf (bareOf (q .stored)) (c .clock) k in
-      let w = subst (λ (x : Picked). OutputSaid x out m out′) (e₁ .0) e₂ in
-      let g : m ≡ outcomeMove q (before q short R.Entry) o (accepts k (o .answer)) =
-      w .moves ∙ ap (outcomeMove q (before q short R.Entry) o) (sym (none (o .answer))) in
+      let o = S.stepOf (withWordBytes w (bareOf (q .stored))) (c .clock) k in
+      let g : m ≡ outcomeMove q (before q short R.Entry) o (keeps k (o .answer)) =
+      e₂ .moves ∙ ap (outcomeMove q (before q short R.Entry) o) (sym (none (o .answer))) in
       record {
         told = e₃ .0 ∙ ap (λ (x : Moved). x .told) g
-            ∙ entry-lands ys c n k no-show short R.Entry noBytes (λ h. absurd (false≢true (sym (none (o .answer)) ∙ h))) .told;
-        left = e₃ .1 ∙ ap (λ (l : List Record). settled l m) (e₁ .1) ∙ ap (settled ys) g
-            ∙ entry-settles ys c n k no-show short R.Entry (none (o .answer));
-        output = w .output ∙ ap (λ (z : List ℕ). over z out) (entry-writes ys c n k no-show short R.Entry);
+            ∙ entry-lands ys c n k no-show w reads short R.Entry noBytes
+            (λ h. absurd (false≢true (sym (none (o .answer)) ∙ h))) .told;
+        left = e₃ .1 ∙ ap (settled ys) g ∙ entry-settles ys c n k no-show w reads short R.Entry (none (o .answer));
+        output = e₂ .output ∙ ap (λ (z : List ℕ). over z out) (entry-writes ys c n k no-show w reads short R.Entry);
       }
+
+-- a stop looks at no words
+abbrev pub StopSaid : Picked → List ℕ → Moved → List ℕ → Type 0
+StopSaid p out m out′ = OutputSaid (S.act S.stop) refl (λ a. and-false (isDone a)) p noBytes out m out′
+
+pub stop-follows : (ys : List Record) (c : Call) (out : List ℕ) (p : Picked) (us : List Record) (m : Moved)
+    (out′ : List ℕ) (r : Called) (zs : List Record)
+    → PickSaid ys c p us → StopSaid p out m out′ → SettleSaid us m r zs
+    → OutputSays (stopIn (lent (c .gateway) ys) (c .clock) (length out) (c .entry)) zs out out′ r
+stop-follows ys c out p us m out′ r zs e₁ e₂ e₃ =
+    output-follows (S.act S.stop) refl (λ a. and-false (isDone a)) ys c noBytes out m out′ r zs
+    (λ h. absurd (false≢true h)) (subst (λ (x : Picked). StopSaid x out m out′) (e₁ .0) e₂)
+    (subst (λ (x : List Record). SettleSaid x m r zs) (e₁ .1) e₃)
+
+-- in setup the words read are the record's
+words-read : (ys : List Record) (p : Picked) → isSetup (stateFrom (p .stored .state)) ≡ true
+    → handedAt ys p ≡ recordAt ys (p .spot) .words
+words-read ys p h =
+    ap (λ (i : ℕ). recordAt ys i .words) (cond-true (isSetup (stateFrom (p .stored .state))) (p .spot) (p .room) h)
+
+abbrev pub SendSaid : Picked → List ℕ → List ℕ → List ℕ → Moved → List ℕ → Type 0
+SendSaid p w value out m out′ = OutputSaid (S.send value) refl (λ a. refl) p w out m out′
+
+pub send-follows : (ys : List Record) (c : Call) (value out : List ℕ) (p : Picked) (us : List Record) (w : List ℕ)
+    (us₂ : List Record) (m : Moved) (out′ : List ℕ) (r : Called) (zs : List Record)
+    → PickSaid ys c p us → WordsSaid us p w us₂ → SendSaid p w value out m out′ → SettleSaid us₂ m r zs
+    → OutputSays (sendIn (lent (c .gateway) ys) (c .clock) (length out) (c .entry) value) zs out out′ r
+send-follows ys c value out p us w us₂ m out′ r zs e₁ e e₂ e₃ =
+    let is : w ≡ handedAt ys (pickedOf ys c) = e .0 ∙ (λ i. handedAt (e₁ .1 i) (e₁ .0 i)) in
+    output-follows (S.send value) refl (λ a. refl) ys c w out m out′ r zs
+    (λ h. is ∙ words-read ys (pickedOf ys c) h) (subst (λ (x : Picked). SendSaid x w value out m out′) (e₁ .0) e₂)
+    (subst (λ (x : List Record). SettleSaid x m r zs) (e .1 ∙ e₁ .1) e₃)
 
 -- ---- show
 -- bytes that count nowhere are not shown
@@ -201,7 +298,7 @@ absent-refused true true short absent x = (refl, refl)
 absent-refused true false true absent x = (refl, refl)
 absent-refused true false false absent x = (refl, refl)
 
-module _ (ys : List Record) (c : Call) (s out out′ : List ℕ) (m : Moved) where
+module _ (ys : List Record) (c : Call) (w s out out′ : List ℕ) (m : Moved) where
   abbrev d : Lent
   d = lent (c .gateway) ys
 
@@ -213,7 +310,7 @@ module _ (ys : List Record) (c : Call) (s out out′ : List ℕ) (m : Moved) whe
 
   -- what is stored and told, and what is written
   pub record Comes (r : Result) : Type 0 where
-    pub lands : Lands ys c m v r
+    pub lands : Lands ys c m (λ x. withValue x v) r
     pub writes : out′ ≡ over (bytesOf (r .writes)) out
 
   -- a move that is refused before the connection's own step
@@ -221,9 +318,9 @@ module _ (ys : List Record) (c : Call) (s out out′ : List ℕ) (m : Moved) whe
       → StepMoves p a o accepted out out′ m
       → (m ≡ refusedMove p a) × (out′ ≡ out)
   unfolding over
-  step-refused p a o accepted h w = (
-    w .moves ∙ cond-false (isDone a) _ (refusedMove p a) h,
-    w .output ∙ ap (λ (b : Bool). over (cond b (bytesOf (o .writes)) []) out) h,
+  step-refused p a o accepted h u = (
+    u .moves ∙ cond-false (isDone a) _ (refusedMove p a) h,
+    u .output ∙ ap (λ (b : Bool). over (cond b (bytesOf (o .writes)) []) out) h,
   )
 
   -- refused, with no entry
@@ -234,10 +331,10 @@ module _ (ys : List Record) (c : Call) (s out out′ : List ℕ) (m : Moved) whe
     refused-comes : (a : Answer) (n : ℕ) → isEnded a ≡ false → m ≡ refusedMove at a → out′ ≡ out
         → Comes (refusedOf a (c .clock) n d)
     unfolding over
-    refused-comes a n h q w = record {
-      lands = subst (λ (z : Moved). Lands ys c z v (refusedOf a (c .clock) n d)) (sym q)
-          (refused-lands ys c x spot a n v (λ e. absurd (false≢true (sym h ∙ e))));
-      writes = w;
+    refused-comes a n h q u = record {
+      lands = subst (λ (z : Moved). Lands ys c z (λ y. withValue y v) (refusedOf a (c .clock) n d)) (sym q)
+          (refused-lands ys c x spot a n (λ y. withValue y v) (λ e. absurd (false≢true (sym h ∙ e))));
+      writes = u;
     }
 
   -- a frame whose connection was found, or not
@@ -255,21 +352,27 @@ module _ (ys : List Record) (c : Call) (s out out′ : List ℕ) (m : Moved) whe
     frame-in : Result
     frame-in = onEntry (λ e. S.stepOf e (c .clock) (S.deliver f body)) R.Unknown d (c .clock) short i
 
-    met-comes : FrameMoves (picked (recordAt ys i .stored) c (length ys) i) s (Frame f start end) out out′ m
-        → Comes frame-in
+    abbrev Moves : Picked → Type 0
+    Moves p = FrameMoves p w s (Frame f start end) out out′ m × (w ≡ handedAt ys p)
+
+    met-comes : Moves (picked (recordAt ys i .stored) c (length ys) i) → Comes frame-in
     unfolding frame-in
-    met-comes w = record {
-      lands = subst (λ (z : Moved). Lands ys c z v frame-in) (sym (w .moves))
-          (entry-lands ys c i (S.deliver f body) refl short R.Unknown v
-          (λ h. ap paddedOf (locates s f start end is .body)));
-      writes = w .output ∙ ap (λ (z : List ℕ). over z out) (entry-writes ys c i (S.deliver f body) refl short R.Unknown);
-    }
+    met-comes u =
+        let k = S.deliver f body in
+        let reads : Reads (recordAt ys i) (c .clock) k refl w =
+        λ h. u .1 ∙ words-read ys (picked (recordAt ys i .stored) c (length ys) i) h in
+        record {
+          lands = subst (λ (z : Moved). Lands ys c z (λ x. withValue x v) frame-in) (sym (u .0 .moves))
+              (entry-lands ys c i k refl w reads short R.Unknown v (λ h. ap paddedOf (locates s f start end is .body)));
+          writes = u .0 .output
+              ∙ ap (λ (z : List ℕ). over z out) (entry-writes ys c i k refl w reads short R.Unknown);
+        }
 
     unmet-comes : (ltb i (c .gateway .count) && ltb i (length ys)) ≡ false
-        → FrameMoves (picked (blankRecord .stored) c (length ys) (length ys)) s (Frame f start end) out out′ m
+        → FrameMoves (picked (blankRecord .stored) c (length ys) (length ys)) w s (Frame f start end) out out′ m
         → Comes frame-in
     unfolding frame-in endpointAt
-    unmet-comes h w =
+    unmet-comes h u =
         let blank = blankRecord .stored in
         let reading = isReading (c .gateway) (c .clock) in
         let count = c .gateway .count in
@@ -280,7 +383,8 @@ module _ (ys : List Record) (c : Call) (s out out′ : List ℕ) (m : Moved) whe
         let a′ = admit reading shorter short (admitEntry (ltb i count) R.Unknown y) in
         let g = absent-refused reading shorter short R.Unknown x in
         let same : a ≡ a′ = absent-same reading shorter short (ltb i count) R.Unknown x y (outside h) in
-        let k = step-refused (picked blank c (length ys) (length ys)) a (S.stepOf (bareOf blank) (c .clock) (S.deliver f body)) _ (g .0) w in
+        let k = step-refused (picked blank c (length ys) (length ys)) a
+        (S.stepOf (withWordBytes w (bareOf blank)) (c .clock) (S.deliver f body)) _ (g .0) u in
         subst Comes (sym (cond-false (isDone a′) _ (refusedOf a′ (c .clock) i d) (ap isDone (sym same) ∙ g .0)))
         (subst (λ (z : Answer). Comes (refusedOf z (c .clock) i d)) same
         (refused-comes blank (length ys) a i (g .1) (k .0) (k .1)))
@@ -294,21 +398,21 @@ module _ (ys : List Record) (c : Call) (s out out′ : List ℕ) (m : Moved) whe
             absurd (false≢true (sym h ∙ (λ j. e j && lt-ltb i (length ys) (omega (arith, l, n)) j))))
             (λ e. e)
 
-    frame-comes : FrameMoves (metOf ys (soughtOf c (connectionIn s))) s (Frame f start end) out out′ m → Comes frame-in
-    frame-comes w =
+    frame-comes : Moves (metOf ys (soughtOf c (connectionIn s))) → Comes frame-in
+    frame-comes u =
         let there = picked (recordAt ys i .stored) c (length ys) i in
         let nowhere = picked (blankRecord .stored) c (length ys) (length ys) in
         let b = ltb i (c .gateway .count) && ltb i (length ys) in
         bcase b
-        (λ h. met-comes (subst (λ (p : Picked). FrameMoves p s (Frame f start end) out out′ m) (cond-true b there nowhere h) w))
-        (λ h. unmet-comes h (subst (λ (p : Picked). FrameMoves p s (Frame f start end) out out′ m) (cond-false b there nowhere h) w))
+        (λ h. met-comes (subst Moves (cond-true b there nowhere h) u))
+        (λ h. unmet-comes h (subst Moves (cond-false b there nowhere h) u .0))
 
-    read-comes : FrameMoves (metOf ys (soughtOf c (connectionIn s))) s (Frame f start end) out out′ m
+    read-comes : Moves (metOf ys (soughtOf c (connectionIn s)))
         → Comes (byReading d (c .clock) (length out) s (Frame f start end))
     unfolding frame-in
-    read-comes w =
+    read-comes u =
         subst (λ (n : ℕ). Comes (onEntry (λ e. S.stepOf e (c .clock) (S.deliver f body)) R.Unknown d (c .clock) short n))
-        (sym place-is) (frame-comes w)
+        (sym place-is) (frame-comes u)
 
   -- what was sought is of this call, and of this slice
   abbrev sought : Picked
@@ -339,39 +443,44 @@ module _ (ys : List Record) (c : Call) (s out out′ : List ℕ) (m : Moved) whe
       (refused-comes (sought .stored) (sought .spot)
       (admit (isReading (c .gateway) (c .clock)) (ltb (length ys) (c .gateway .count)) short a) 0)
 
-  by-reading : (x : Reading) → readingOf s ≡ x → FrameMoves sought s x out out′ m → Comes (byReading d (c .clock) (length out) s x)
-  by-reading (Frame f start end) is w = read-comes f start end is w
-  by-reading (Refused fault) is w =
+  by-reading : (x : Reading) → readingOf s ≡ x → w ≡ handedAt ys sought → FrameMoves sought w s x out out′ m
+      → Comes (byReading d (c .clock) (length out) s x)
+  by-reading (Frame f start end) is read u = read-comes f start end is (u, read)
+  by-reading (Refused fault) is read u =
       let a = Dropped (reasonOf fault) in
       let g = isReading (sought .call .gateway) (sought .call .clock) in
       let l = ltb (sought .room) (sought .call .gateway .count) in
-      let k = step-refused sought (admitted sought short a) (frameOutcome sought s (Refused fault)) false
-      (not-done g l short (reasonOf fault)) w in
+      let k = step-refused sought (admitted sought short a) (frameOutcome sought w s (Refused fault)) false
+      (not-done g l short (reasonOf fault)) u in
       fault-comes a (not-ended g l short a refl) (k .0) (k .1)
 
-  pub deliver-comes : DeliverMoves sought s out out′ m → Comes (deliverIn d (c .clock) (length out) s)
-  deliver-comes w =
+  pub deliver-comes : w ≡ handedAt ys sought → DeliverMoves sought w s out out′ m
+      → Comes (deliverIn d (c .clock) (length out) s)
+  deliver-comes read u =
       let none = emptyCycle d (c .clock) short in
       let some = byReading d (c .clock) (length out) s (readingOf s) in
       bcase (eqb (length s) 0)
-      (λ h. let e = w .empty h in
+      (λ h. let e = u .empty h in
       subst Comes (sym (cond-true (eqb (length s) 0) none some h))
       (fault-comes Done (not-ended (isReading (sought .call .gateway) (sought .call .clock))
       (ltb (sought .room) (sought .call .gateway .count)) short Done refl) (e .moves) (e .output)))
-      (λ h. subst Comes (sym (cond-false (eqb (length s) 0) none some h)) (by-reading (readingOf s) refl (w .frame h)))
+      (λ h. subst Comes (sym (cond-false (eqb (length s) 0) none some h)) (by-reading (readingOf s) refl read (u .frame h)))
 
 pub deliver-follows : (ys : List Record) (c : Call) (s out : List ℕ) (k : Sought) (p : Picked) (us : List Record)
-    (m : Moved) (out′ : List ℕ) (v : List ℕ) (t : Called) (ts : List Record) (r : Called) (zs : List Record)
-    → k ≡ soughtOf c (connectionIn s) → SeekSaid ys k p us → DeliverMoves p s out out′ m → v ≡ paddedOf (bodyIn s)
-    → SettleSaid us m t ts → PutSaid ts m v r zs
+    (w : List ℕ) (us₂ : List Record) (m : Moved) (out′ : List ℕ) (v : List ℕ) (t : Called) (us₃ : List Record) (r : Called)
+    (zs : List Record)
+    → k ≡ soughtOf c (connectionIn s) → SeekSaid ys k p us → WordsSaid us p w us₂ → DeliverMoves p w s out out′ m
+    → v ≡ paddedOf (bodyIn s) → SettleSaid us₂ m t us₃ → PutSaid us₃ m v r zs
     → OutputSays (deliverIn (lent (c .gateway) ys) (c .clock) (length out) s) zs out out′ r
-deliver-follows ys c s out k p us m out′ v t ts r zs e₀ e₁ e₂ e e₃ e₄ =
+deliver-follows ys c s out k p us w us₂ m out′ v t us₃ r zs e₀ e₁ e₂ e₃ e e₄ e₅ =
     let q : p ≡ metOf ys (soughtOf c (connectionIn s)) = e₁ .0 ∙ ap (metOf ys) e₀ in
-    let w = deliver-comes ys c s out out′ m (subst (λ (x : Picked). DeliverMoves x s out out′ m) q e₂) in
+    let u = deliver-comes ys c w s out out′ m (e₂ .0 ∙ (λ i. handedAt (e₁ .1 i) (q i)))
+    (subst (λ (x : Picked). DeliverMoves x w s out out′ m) q e₃) in
     record {
-      told = e₄ .0 ∙ w .lands .told;
-      left = e₄ .1 ∙ ap (λ (b : List ℕ). valueAt (m .keep) b ts) e
-          ∙ ap (valueAt (m .keep) (paddedOf (bodyIn s))) (e₃ .1 ∙ ap (λ (l : List Record). settled l m) (e₁ .1))
-          ∙ w .lands .left;
-      output = w .writes;
+      told = e₅ .0 ∙ u .lands .told;
+      left = e₅ .1 ∙ ap (λ (b : List ℕ). valueAt (m .keep) b us₃) e
+          ∙ ap (valueAt (m .keep) (paddedOf (bodyIn s)))
+          (e₄ .1 ∙ ap (λ (l : List Record). settled l m) (e₂ .1 ∙ e₁ .1))
+          ∙ u .lands .left;
+      output = u .writes;
     }

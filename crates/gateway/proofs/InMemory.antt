@@ -22,17 +22,17 @@ starts t k (suc n) = startOf (fieldOf t k) ∷ starts t (suc k) n
 abbrev Lies : Data → ℕ → ℕ → ℕ → List ℕ → Type 0
 Lies d bytes by n at = (size (d .ty) ≡ bytes) × (align (d .ty) ≡ by) × (starts (d .ty) 0 n ≡ at)
 
-pub stored-lies : Lies stored 80 8 21
-    (0 ∷ 8 ∷ 16 ∷ 24 ∷ 32 ∷ 40 ∷ 48 ∷ 52 ∷ 56 ∷ 60 ∷ 64 ∷ 68 ∷ 69 ∷ 70 ∷ 71 ∷ 72 ∷ 73 ∷ 74 ∷ 75 ∷ 76 ∷ 77 ∷ [])
+pub stored-lies : Lies stored 80 8 23
+    (0 ∷ 8 ∷ 12 ∷ 16 ∷ 20 ∷ 24 ∷ 28 ∷ 29 ∷ 30 ∷ 31 ∷ 32 ∷ 40 ∷ 48 ∷ 56 ∷ 64 ∷ 72 ∷ 73 ∷ 74 ∷ 75 ∷ 76 ∷ 77 ∷ 78 ∷ 79 ∷ [])
 stored-lies = (refl, refl, refl)
 
-pub record-lies : Lies rec 184 8 2 (0 ∷ 80 ∷ [])
+pub record-lies : Lies rec 280 8 3 (0 ∷ 80 ∷ 180 ∷ [])
 record-lies = (refl, refl, refl)
 
 pub gateway-lies : Lies gateway 16 8 2 (0 ∷ 8 ∷ [])
 gateway-lies = (refl, refl, refl)
 
-pub call-lies : Lies call 40 8 4 (0 ∷ 16 ∷ 24 ∷ 32 ∷ [])
+pub call-lies : Lies call 40 8 5 (0 ∷ 16 ∷ 24 ∷ 32 ∷ 36 ∷ [])
 call-lies = (refl, refl, refl)
 
 pub told-lies : Lies told 24 8 5 (0 ∷ 8 ∷ 16 ∷ 17 ∷ 18 ∷ [])

@@ -1,29 +1,36 @@
 -- What a call's own step moves is what the call comes to: its answer, and the records that it leaves.
 use mathlib.Core.Path.{_≡_, refl, sym, ap, subst, _∙_}
-use mathlib.Core.Bool.{Bool, true, false, _&&_, not, cond, true≢false, false≢true}
+use mathlib.Core.Bool.{Bool, true, false, _&&_, not, cond, Bool·beq, false≢true}
 use mathlib.Core.List.{List, [], _∷_}
+use mathlib.Mathlib.Data.Bool.Basic.{and-elim-left, and-elim-right}
 use Prim.Native.Nat.{ℕ, zero, suc, _<_, _≤_}
-use native.Mathlib.Nat.{not-suc-le-zero, le-of-suc-le-suc}
 use native.Mathlib.Omega.{arith}
 use lib.Dec.{ltb}
-use lib.ListN.{length, getD, set, length-set}
+use lib.ListN.{length, set, length-set}
 use lib.Seq.{getD-set-same}
-use borrow.Author.Tests.{ltb-true, ltb-false, le-ltb}
+use borrow.Author.Tests.{ltb-true, ltb-false}
+use Rattle.frame.specs.declared.Command.the-variants as K
+use Rattle.frame.specs.declared.Fields.{Fields}
+use Rattle.frame.specs.Control.{is}
 use Rattle.endpoint.specs.Endpoint.{Endpoint, noBytes, coreOf}
 use Rattle.endpoint.specs.declared.Reason.{Reason}
 use Rattle.endpoint.specs.declared.Reason.the-variants as R
 use Rattle.endpoint.specs.declared.Answer.{Answer}
-use Rattle.endpoint.specs.declared.Answer.the-variants.{Done, Ended}
-use Rattle.endpoint.specs.Answers.{isDone, isEnded}
-use Rattle.endpoint.specs.Time.{isExpired}
-use Rattle.steps.specs.Frames.{Written, bytesOf}
+use Rattle.endpoint.specs.declared.Answer.the-variants.{Done, Dropped, Ended}
+use Rattle.endpoint.specs.Answers.{firstOf, isDone, isEnded, leftBy}
+use Rattle.endpoint.specs.Time.{isExpired, endedOf}
+use Rattle.transitions.specs.ByFrame.{refreshedOf}
+use Rattle.steps.specs.Frames.{bytesOf}
+use Rattle.steps.specs.Frames.{paddedOf}
 use Rattle.steps.specs.Calls.{Outcome, isFailSafe, shownOf}
-use Rattle.steps.specs.Deliveries.{paddedOf}
+use Rattle.steps.specs.Deliveries.{refreshFaults, deliverOf}
 use Rattle.steps.specs.Says.{steppedOf}
 use Rattle.steps.specs.Steps as S
-use Rattle.steps.specs.Values.{isShow, accepts, bodyIn, ValueLeft}
+use Rattle.steps.specs.Values.{withBytes, isShow, accepts, bodyIn, bytesAfter, withWordBytes, looks, handsOver, handedIn}
+use Rattle.steps.specs.Values.{wordsAfter, WordsLeft}
 use Rattle.steps.proofs.Values.{values}
-use Rattle.steps.proofs.Dispatch.{cond-true, cond-false}
+use Rattle.steps.proofs.WordsKept.{words-laws}
+use Rattle.steps.proofs.Dispatch.{cond-true, cond-false, deliver-echo, deliver-refresh}
 use Rattle.steps.proofs.Keeps.{bcase}
 use Rattle.records.specs.declared.Stored.{Stored}
 use Rattle.records.specs.declared.Record.{Record}
@@ -31,15 +38,14 @@ use Rattle.records.specs.Records.{isSet, bareOf, heldIn, endpointOf, storedOf, 
 use Rattle.records.proofs.Records.{records}
 use Rattle.lent.specs.First.{onFirst, length-first, getD-below, set-past}
 use Rattle.gateway.specs.declared.Call.{Call}
-use Rattle.gateway.specs.declared.Called.{Called}
 use Rattle.gateway.specs.declared.Picked.{Picked}
 use Rattle.gateway.specs.declared.Moved.{Moved}
-use Rattle.gateway.specs.Tables.{Lent, lent, recordAt, blankRecord, endpointAt, ticked, clockStep, afterClock, isShorter}
-use Rattle.gateway.specs.Tables.{isReading, atClock, isTimely}
+use Rattle.gateway.specs.Tables.{Lent, lent, recordAt, blankRecord, endpointAt, ticked, clockStep}
+use Rattle.gateway.specs.Tables.{isReading, atClock}
 use Rattle.gateway.specs.Calls.{Absent, At, Result, admit, admitEntry, actedOf, refusedOf, onEntry, shownIn, calledBy}
 use Rattle.gateway.specs.Calls.{calledOf, isNamed, entryNumber}
-use Rattle.gateway.specs.Parts.{withStored, withValue, storedAt, valueAt, picked, opens, steppedRecord, settled}
-use Rattle.gateway.specs.Parts.{before, refusedMove, actedMove, shownMove, outcomeMove}
+use Rattle.gateway.specs.Parts.{withStored, withValue, withWords, storedAt, valueAt, picked, opens, steppedRecord}
+use Rattle.gateway.specs.Parts.{settled, before, refusedMove, actedMove, shownMove, outcomeMove}
 
 -- ---- stores into a list
 set-set : {R : Type 0} (ys : List R) (i : ℕ) (a b : R) → set (set ys i a) i b ≡ set ys i b
@@ -47,51 +53,183 @@ set-set [] i a b = refl
 set-set (y ∷ ys) zero a b = refl
 set-set (y ∷ ys) (suc i) a b = ap (λ (zs : List _). y ∷ zs) (set-set ys i a b)
 
--- a field after the other, at one place
-both : (xs : List Record) (n : ℕ) (s : Stored) (bytes : List ℕ) → n < length xs
-    → valueAt n bytes (storedAt n s xs) ≡ set xs n (recordWith s bytes)
-both xs n s bytes h =
-    let r = withStored (recordAt xs n) s in
-    ap (λ (x : Record). set (set xs n r) n (withValue x bytes)) (getD-set-same xs n r blankRecord h)
-    ∙ set-set xs n r (recordWith s bytes)
+-- one record replaced by what is made of it; past the slice none
+abbrev pub putAt : (Record → Record) → ℕ → List Record → List Record
+putAt put n rs = set rs n (put (recordAt rs n))
 
--- past the slice nothing is stored
-value-past : (xs : List Record) (n : ℕ) (bytes : List ℕ) → length xs ≤ n → valueAt n bytes xs ≡ xs
-value-past xs n bytes h = sym (set-past xs n (withValue (recordAt xs n) bytes) h)
+put-past : (put : Record → Record) (xs : List Record) (n : ℕ) → length xs ≤ n → putAt put n xs ≡ xs
+put-past put xs n h = sym (set-past xs n (put (recordAt xs n)) h)
 
-stored-past : (xs : List Record) (n : ℕ) (s : Stored) → length xs ≤ n → storedAt n s xs ≡ xs
-stored-past xs n s h = sym (set-past xs n (withStored (recordAt xs n) s) h)
+-- a record just stored, and put at its place or past the slice
+put-over : (put : Record → Record) (xs : List Record) (n room : ℕ) (r : Record) (b : Bool) → n < length xs
+    → length xs ≤ room → putAt put (cond b n room) (set xs n r) ≡ set xs n (cond b (put r) r)
+put-over put xs n room r true h past =
+    ap (λ (x : Record). set (set xs n r) n (put x)) (getD-set-same xs n r blankRecord h) ∙ set-set xs n r (put r)
+put-over put xs n room r false h past =
+    let l = length-set xs n r in put-past put (set xs n r) room (omega (arith, l, past))
 
-wiped : (xs : List Record) (n room : ℕ) (s : Stored) (v : List ℕ) → n < length xs → length xs ≤ room
-    → valueAt room v (valueAt n noBytes (storedAt n s xs)) ≡ set xs n (recordWith s noBytes)
-wiped xs n room s v h past =
-    let q = both xs n s noBytes h in
-    let l = length-set xs n (recordWith s noBytes) in
-    ap (valueAt room v) q ∙ value-past (set xs n (recordWith s noBytes)) room v (omega (arith, l, past))
+-- ---- what a call's own step makes of a record
+-- the value is left, or wiped where none is taken
+abbrev settledRecord : Record → Stored → Bool → Record
+settledRecord r s taken = recordWith s (cond taken (r .value) noBytes) (r .words)
 
--- ---- one record's two fields
--- the value is wiped where none is taken, a new one kept, and left otherwise
-fields : (xs : List Record) (n room : ℕ) (s : Stored) (v : List ℕ) (taken accepted : Bool) → n < length xs
+wiped : (r : Record) (s : Stored) (taken : Bool)
+    → cond taken (withStored r s) (withValue (withStored r s) noBytes) ≡ settledRecord r s taken
+wiped r s true = refl
+wiped r s false = refl
+
+-- its stored part; then what it keeps, a new value or new words
+fields : (put : Record → Record) (xs : List Record) (n room : ℕ) (s : Stored) (taken kept : Bool) → n < length xs
     → length xs ≤ room
-    → valueAt (cond (accepted && taken) n room) v (valueAt (cond taken room n) noBytes (storedAt n s xs))
-    ≡ set xs n (recordWith s (cond taken (cond accepted v (recordAt xs n .value)) noBytes))
-fields xs n room s v true true h past =
-    let l = length-set xs n (withStored (recordAt xs n) s) in
-    ap (valueAt n v) (value-past (storedAt n s xs) room noBytes (omega (arith, l, past))) ∙ both xs n s v h
-fields xs n room s v true false h past =
-    let l = length-set xs n (withStored (recordAt xs n) s) in
-    ap (valueAt room v) (value-past (storedAt n s xs) room noBytes (omega (arith, l, past)))
-    ∙ value-past (storedAt n s xs) room v (omega (arith, l, past))
-fields xs n room s v false true h past = wiped xs n room s v h past
-fields xs n room s v false false h past = wiped xs n room s v h past
+    → putAt put (cond kept n room) (valueAt (cond taken room n) noBytes (storedAt n s xs))
+    ≡ set xs n (cond kept (put (settledRecord (recordAt xs n) s taken)) (settledRecord (recordAt xs n) s taken))
+fields put xs n room s taken kept h past =
+    let r = withStored (recordAt xs n) s in
+    let q : valueAt (cond taken room n) noBytes (set xs n r) ≡ set xs n (settledRecord (recordAt xs n) s taken) =
+    ap (λ (i : ℕ). valueAt i noBytes (set xs n r)) (swapped taken)
+    ∙ put-over (λ x. withValue x noBytes) xs n room r (not taken) h past
+    ∙ ap (set xs n) (turned taken r (withValue r noBytes) ∙ wiped (recordAt xs n) s taken) in
+    ap (putAt put (cond kept n room)) q ∙ put-over put xs n room (settledRecord (recordAt xs n) s taken) kept h past
+  where
+    swapped : (b : Bool) → cond b room n ≡ cond (not b) n room
+    swapped true = refl
+    swapped false = refl
 
--- which bytes the definition has
-same-bytes : (taken accepted : Bool) (x v h w : List ℕ) → (accepted ≡ true → v ≡ x)
-    → (taken ≡ true → accepted ≡ false → h ≡ w)
-    → cond taken (cond accepted x h) noBytes ≡ cond taken (cond accepted v w) noBytes
-same-bytes true true x v h w e f = sym (e refl)
-same-bytes true false x v h w e f = f refl refl
-same-bytes false accepted x v h w e f = refl
+    turned : (b : Bool) (x y : Record) → cond (not b) y x ≡ cond b x y
+    turned true x y = refl
+    turned false x y = refl
+
+-- ---- what a call keeps of what it is lent: a value that was accepted, or the words handed over
+abbrev pub keeps : S.Call → Answer → Bool
+keeps (S.act x) a = isDone a && handsOver x
+keeps (S.send value) a = false
+keeps (S.deliver f body) a = isDone a && is (f .command) K.Refresh
+keeps S.show a = false
+
+abbrev pub keptIn : S.Call → List ℕ
+keptIn (S.act x) = handedIn x
+keptIn (S.send value) = []
+keptIn (S.deliver f body) = body
+keptIn S.show = []
+
+abbrev pub keeping : S.Call → List ℕ → Record → Record
+keeping (S.act x) v r = withWords r v
+keeping (S.send value) v r = r
+keeping (S.deliver f body) v r = withValue r v
+keeping S.show v r = r
+
+-- a value that is accepted is taken
+left-taken : (a : Answer) (x y z : Endpoint) → isDone a ≡ true → z .value .taken ≡ true → leftBy a x y z .value .taken ≡ true
+left-taken Done x y z h q = q
+left-taken (Dropped r) x y z h q = absurd (false≢true h)
+left-taken (Ended r) x y z h q = absurd (false≢true h)
+
+module _ (e : Endpoint) (t : ℕ) (f : Fields) (body : List ℕ) where
+  deliver-taken : (isDone (deliverOf e t f body .answer) && is (f .command) K.Refresh) ≡ true
+      → deliverOf e t f body .endpoint .value .taken ≡ true
+  deliver-taken h =
+      let k = and-elim-right (isDone (deliverOf e t f body .answer)) (is (f .command) K.Refresh) h in
+      let d = and-elim-left (isDone (deliverOf e t f body .answer)) (is (f .command) K.Refresh) h in
+      bcase (Bool·beq (f .application) (e .settings .slave))
+      (λ i. absurd (false≢true (ap (λ (o : Outcome). isDone (o .answer)) (sym (deliver-echo e t f body i)) ∙ d)))
+      (λ i. let q = deliver-refresh e t f body i k in
+      ap (λ (o : Outcome). o .endpoint .value .taken) q
+      ∙ left-taken (firstOf (refreshFaults e t (f .timestamp) (length body))) e (endedOf e)
+      (refreshedOf e t (f .timestamp) (paddedOf body)) (ap (λ (o : Outcome). isDone (o .answer)) (sym q) ∙ d) refl)
+
+accepted-taken : (e : Endpoint) (t : ℕ) (k : S.Call) → accepts k (S.stepOf e t k .answer) ≡ true
+    → S.stepOf e t k .endpoint .value .taken ≡ true
+accepted-taken e t (S.act a) h = absurd (false≢true h)
+accepted-taken e t (S.send value) h = absurd (false≢true h)
+accepted-taken e t (S.deliver f body) h = deliver-taken e t f body h
+accepted-taken e t S.show h = absurd (false≢true h)
+
+-- a record that is settled and put is the one that the definition has
+module _ (a : Answer) (r : Record) (s : Stored) (v held : List ℕ) where
+  abbrev Made : S.Call → Bool → Type 0
+  Made k taken =
+      cond (keeps k a) (keeping k v (settledRecord r s taken)) (settledRecord r s taken)
+      ≡ recordWith s (cond taken (cond (accepts k a) (paddedOf (bodyIn k)) held) noBytes) (wordsAfter k a (r .words))
+
+  -- the value stays, or is wiped
+  stays : (taken : Bool) → (taken ≡ true → held ≡ r .value) → cond taken (r .value) noBytes ≡ cond taken held noBytes
+  stays true h = sym (h refl)
+  stays false h = refl
+
+  hands : (b taken : Bool) (w : List ℕ) → (b ≡ true → v ≡ w) → (taken ≡ true → held ≡ r .value)
+      → cond b (withWords (settledRecord r s taken) v) (settledRecord r s taken)
+      ≡ recordWith s (cond taken held noBytes) (cond b w (r .words))
+  hands true taken w e h = (λ i. recordWith s (stays taken h i) (e refl i))
+  hands false taken w e h = ap (λ (x : List ℕ). recordWith s x (r .words)) (stays taken h)
+
+  takes : (b taken : Bool) (w : List ℕ) → (b ≡ true → v ≡ w) → (b ≡ true → taken ≡ true)
+      → (taken ≡ true → b ≡ false → held ≡ r .value)
+      → cond b (withValue (settledRecord r s taken) v) (settledRecord r s taken)
+      ≡ recordWith s (cond taken (cond b w held) noBytes) (r .words)
+  takes true true w e t h = ap (λ (x : List ℕ). recordWith s x (r .words)) (e refl)
+  takes true false w e t h = absurd (false≢true (t refl))
+  takes false taken w e t h = ap (λ (x : List ℕ). recordWith s x (r .words)) (stays taken (λ q. h q refl))
+
+  made : (k : S.Call) (taken : Bool) → (keeps k a ≡ true → v ≡ paddedOf (keptIn k))
+      → (accepts k a ≡ true → taken ≡ true) → (taken ≡ true → accepts k a ≡ false → held ≡ r .value) → Made k taken
+  made (S.act x) taken e t h = hands (isDone a && handsOver x) taken (paddedOf (handedIn x)) e (λ q. h q refl)
+  made (S.send value) taken e t h = ap (λ (x : List ℕ). recordWith s x (r .words)) (stays taken (λ q. h q refl))
+  made (S.deliver f body) taken e t h = takes (isDone a && is (f .command) K.Refresh) taken (paddedOf body) e t h
+  made S.show taken e t h = ap (λ (x : List ℕ). recordWith s x (r .words)) (stays taken (λ q. h q refl))
+
+-- ---- a step on a record's stored part and these words, and on its whole endpoint: the same, but for the bytes left
+module _ (rec : Record) (t : ℕ) (k : S.Call) (quiet : isShow k ≡ false) (w : List ℕ) where
+  abbrev begun : Endpoint
+  begun = withWordBytes w (bareOf (rec .stored))
+
+  abbrev byValue : Outcome
+  byValue = S.stepOf begun t k
+
+  abbrev own : Outcome
+  own = S.stepOf (endpointOf rec) t k
+
+  -- with the record's words, but without its value
+  abbrev worded : Outcome
+  worded = S.stepOf (withWordBytes (rec .words) (bareOf (rec .stored))) t k
+
+  pub record OwnLeft : Type 0 where
+    pub answered : own .answer ≡ byValue .answer
+    pub writes : own .writes ≡ byValue .writes
+    pub left : own .endpoint ≡ withBytes (bytesAfter k byValue (heldIn rec))
+        (withWordBytes (wordsAfter k (byValue .answer) (rec .words)) (byValue .endpoint))
+    -- a value that is neither new nor wiped was there
+    pub there : byValue .endpoint .value .taken ≡ true → accepts k (byValue .answer) ≡ false → heldIn rec ≡ rec .value
+
+  -- they are the record's, or the call does not look at them
+  abbrev pub Reads : Type 0
+  Reads = looks begun k ≡ true → w ≡ rec .words
+
+  words-left : Reads → WordsLeft k (rec .words) byValue worded
+  words-left reads =
+      bcase (looks begun k)
+      (λ h. subst (λ (v : List ℕ). WordsLeft k (rec .words) (S.stepOf (withWordBytes v (bareOf (rec .stored))) t k) worded)
+      (sym (reads h)) (record {
+        answered = refl;
+        writes = refl;
+        left = ap (λ (v : List ℕ). withWordBytes v (worded .endpoint))
+            (words-laws .left (withWordBytes (rec .words) (bareOf (rec .stored))) t k);
+      }))
+      (λ h. words-laws .apart begun t k (rec .words) h)
+
+  own-left : Reads → OwnLeft
+  own-left reads =
+      let u = words-left reads in
+      let l = values (withWordBytes (rec .words) (bareOf (rec .stored))) t k (heldIn rec) quiet (records .tidy rec) in
+      let taken : worded .endpoint .value .taken ≡ byValue .endpoint .value .taken =
+      ap (λ (e : Endpoint). e .value .taken) (u .left) in
+      record {
+        answered = l .answered ∙ u .answered;
+        writes = l .writes ∙ u .writes;
+        left = l .left ∙ (λ i. withBytes (cond (u .left i .value .taken)
+            (cond (accepts k (u .answered i)) (paddedOf (bodyIn k)) (heldIn rec)) noBytes) (u .left i));
+        there = λ h g. cond-true (isSet (rec .stored .taken)) (rec .value) noBytes
+            (l .taken (taken ∙ h) (ap (accepts k) (u .answered) ∙ g));
+      }
 
 -- ---- what a call that goes on tells
 pub record Told (r s w o : Bool) : Type 0 where
@@ -124,10 +262,10 @@ module _ (ys : List Record) (c : Call) where
   length-after : length after ≡ length ys
   length-after = length-first (ticked t) (c .gateway .count) ys
 
-  -- what is stored, a value that was accepted too, and what is told
-  pub record Lands (m : Moved) (v : List ℕ) (r : Result) : Type 0 where
+  -- what is stored, what is kept too, and what is told
+  pub record Lands (m : Moved) (put : Record → Record) (r : Result) : Type 0 where
     pub told : m .told ≡ calledOf r
-    pub left : valueAt (m .keep) v (settled ys m) ≡ r .lent .records
+    pub left : putAt put (m .keep) (settled ys m) ≡ r .lent .records
 
   -- ---- refused before the connection's own step
   length-settled : (m : Moved) → length (settled ys m) ≡ length ys
@@ -135,6 +273,16 @@ module _ (ys : List Record) (c : Call) where
       let xs = onFirst (steppedRecord (m .clock)) (m .steps) ys in
       length-set (storedAt (m .spot) (m .stored) xs) (m .wipe) _ ∙ length-set xs (m .spot) _
       ∙ length-first (steppedRecord (m .clock)) (m .steps) ys
+
+  -- where nothing of the connection's own is stored
+  past-settled : (s : Stored) (steps : ℕ) → valueAt (length ys) noBytes (storedAt (length ys) s (onFirst (ticked t) steps ys))
+      ≡ onFirst (ticked t) steps ys
+  past-settled s steps =
+      let xs = onFirst (ticked t) steps ys in
+      let l = length-first (ticked t) steps ys in
+      put-past (λ r. withValue r noBytes) (storedAt (length ys) s xs) (length ys)
+      (omega (arith, l, length-set xs (length ys) (withStored (recordAt xs (length ys)) s)))
+      ∙ put-past (λ r. withStored r s) xs (length ys) (omega (arith, l))
 
   module _ (s : Stored) (spot : ℕ) where
     abbrev at : Picked
@@ -158,70 +306,59 @@ module _ (ys : List Record) (c : Call) where
     numbered true n h = h refl
     numbered false n h = refl
 
-    pub refused-lands : (a : Answer) (n : ℕ) (v : List ℕ) → (isEnded a ≡ true → spot ≡ n)
-        → Lands (refusedMove at a) v (refusedOf a t n d)
-    refused-lands a n v h =
-        let xs = onFirst (ticked t) (cond (opens at) (c .gateway .count) 0) ys in
-        let l = length-first (ticked t) (cond (opens at) (c .gateway .count) 0) ys in
+    pub refused-lands : (a : Answer) (n : ℕ) (put : Record → Record) → (isEnded a ≡ true → spot ≡ n)
+        → Lands (refusedMove at a) put (refusedOf a t n d)
+    refused-lands a n put h =
         let m = refusedMove at a in
         record {
           told = (λ i. calledBy (gateway-left (opens at) i) a (sym (named (isEnded a) n) i) (numbered (isEnded a) n h i) 0 false);
-          left = value-past (settled ys m) (length ys) v (omega (arith, length-settled m))
-              ∙ value-past (storedAt (length ys) s xs) (length ys) noBytes
-              (omega (arith, l, length-set xs (length ys) (withStored (recordAt xs (length ys)) s)))
-              ∙ stored-past xs (length ys) s (omega (arith, l)) ∙ stepped (opens at);
+          left = put-past put (settled ys m) (length ys) (omega (arith, length-settled m))
+              ∙ past-settled s (cond (opens at) (c .gateway .count) 0) ∙ stepped (opens at);
         }
 
   -- ---- the connection's own step
-  module _ (n : ℕ) (k : S.Call) (quiet : isShow k ≡ false) where
+  module _ (n : ℕ) (k : S.Call) (quiet : isShow k ≡ false) (w : List ℕ) (reads : Reads (recordAt ys n) t k quiet w) where
     abbrev rec : Record
     rec = recordAt ys n
 
-    -- on the stored part alone, and on the whole endpoint
-    abbrev bare : Outcome
-    bare = S.stepOf (bareOf (rec .stored)) t k
+    abbrev does : Outcome
+    does = byValue rec t k quiet w
 
-    abbrev own : Outcome
-    own = S.stepOf (endpointOf rec) t k
+    law : OwnLeft rec t k quiet w
+    law = own-left rec t k quiet w reads
 
-    law : ValueLeft (bareOf (rec .stored)) k (heldIn rec) bare own
-    law = values (bareOf (rec .stored)) t k (heldIn rec) quiet (records .tidy rec)
-
-    abbrev accepted : Bool
-    accepted = accepts k (bare .answer)
+    abbrev kept : Bool
+    kept = keeps k (does .answer)
 
     abbrev spotted : Picked
     spotted = picked (rec .stored) c (length ys) n
 
     abbrev move : Moved
-    move = actedMove spotted (steppedOf (bare .answer) (coreOf (bare .endpoint)) (length (bytesOf (bare .writes)))) accepted
-
-    -- a value that is neither new nor wiped was there
-    there : bare .endpoint .value .taken ≡ true → accepted ≡ false → heldIn rec ≡ rec .value
-    there h g = cond-true (isSet (rec .stored .taken)) (rec .value) noBytes (law .taken h g)
+    move = actedMove spotted (steppedOf (does .answer) (coreOf (does .endpoint)) (length (bytesOf (does .writes)))) kept
 
     still : n < c .gateway .count → n < length ys → isExpired (endpointOf rec) t ≡ false → recordAt after n ≡ rec
-    still h w x =
-        getD-below (ticked t) (c .gateway .count) n ys blankRecord h w
+    still h i x =
+        getD-below (ticked t) (c .gateway .count) n ys blankRecord h i
         ∙ cond-false (isExpired (endpointOf rec) t) _ rec x
 
     pub acted-lands : (v : List ℕ) → n < c .gateway .count → n < length ys → isExpired (endpointOf rec) t ≡ false
-        → (accepted ≡ true → v ≡ paddedOf (bodyIn k))
-        → Lands move v (actedOf own t n d)
+        → (kept ≡ true → v ≡ paddedOf (keptIn k))
+        → Lands move (keeping k v) (actedOf (own rec t k quiet w) t n d)
     unfolding clockStep
-    acted-lands v h w x e =
+    acted-lands v h i x e =
         let l = law in
-        let taken = bare .endpoint .value .taken in
+        let taken = does .endpoint .value .taken in
+        let s = storedOf (does .endpoint) in
         let q = length-after in
         record {
-          told = (λ i. calledBy (atClock t (c .gateway)) (sym (l .answered) i) true n
-              (length (bytesOf (sym (l .writes) i))) false);
-          left = fields after n (length ys) (storedOf (bare .endpoint)) v taken accepted (omega (arith, q, w)) (omega (arith, q))
-              ∙ ap (λ (r : Record). set after n (recordWith (storedOf (bare .endpoint))
-              (cond taken (cond accepted v (r .value)) noBytes))) (still h w x)
-              ∙ ap (λ (b : List ℕ). set after n (recordWith (storedOf (bare .endpoint)) b))
-              (sym (same-bytes taken accepted (paddedOf (bodyIn k)) v (heldIn rec) (rec .value) e there))
-              ∙ ap (λ (z : Endpoint). set after n (recordOf z)) (sym (l .left));
+          told = (λ j. calledBy (atClock t (c .gateway)) (sym (l .answered) j) true n
+              (length (bytesOf (sym (l .writes) j))) false);
+          left = fields (keeping k v) after n (length ys) s taken kept (omega (arith, q, i)) (omega (arith, q))
+              ∙ ap (λ (r : Record). set after n (cond kept (keeping k v (settledRecord r s taken)) (settledRecord r s taken)))
+              (still h i x)
+              ∙ ap (set after n)
+              (made (does .answer) rec s v (heldIn rec) k taken e (accepted-taken (begun rec t k quiet w) t k) (l .there)
+              ∙ sym (ap recordOf (l .left)));
         }
 
     -- ---- a call on an entry
@@ -233,65 +370,57 @@ module _ (ys : List Record) (c : Call) where
       comes = onEntry (λ e. S.stepOf e t k) absent d t short n
 
       abbrev whole-move : Moved
-      whole-move = outcomeMove spotted answer bare accepted
+      whole-move = outcomeMove spotted answer does kept
 
       goes-on : isDone answer ≡ true → (n < c .gateway .count) × (n < length ys) × (isExpired (endpointOf rec) t ≡ false)
       goes-on h =
           let x = tells (isReading (c .gateway) t) (ltb (length ys) (c .gateway .count)) short (ltb n (c .gateway .count))
           (isExpired (endpointOf rec) t) absent h in
           let l = ltb-false (length ys) (c .gateway .count) (x .whole) in
-          let w = ltb-true n (c .gateway .count) (x .entry) in
-          (w, omega (arith, l, w), x .timely)
+          let i = ltb-true n (c .gateway .count) (x .entry) in
+          (i, omega (arith, l, i), x .timely)
 
-      pub entry-lands : (v : List ℕ) → (accepted ≡ true → v ≡ paddedOf (bodyIn k)) → Lands whole-move v comes
+      pub entry-lands : (v : List ℕ) → (kept ≡ true → v ≡ paddedOf (keptIn k)) → Lands whole-move (keeping k v) comes
       unfolding endpointAt
       entry-lands v e =
           bcase (isDone answer)
           (λ h. let g = goes-on h in
-          subst (λ (b : Bool). Lands (cond b move (refusedMove spotted answer)) v
-          (cond b (actedOf own t n d) (refusedOf answer t n d))) (sym h)
+          subst (λ (b : Bool). Lands (cond b move (refusedMove spotted answer)) (keeping k v)
+          (cond b (actedOf (own rec t k quiet w) t n d) (refusedOf answer t n d))) (sym h)
           (acted-lands v (g .0) (g .1) (g .2) e))
-          (λ h. subst (λ (b : Bool). Lands (cond b move (refusedMove spotted answer)) v
-          (cond b (actedOf own t n d) (refusedOf answer t n d))) (sym h)
-          (refused-lands (rec .stored) n answer n v (λ x. refl)))
+          (λ h. subst (λ (b : Bool). Lands (cond b move (refusedMove spotted answer)) (keeping k v)
+          (cond b (actedOf (own rec t k quiet w) t n d) (refusedOf answer t n d))) (sym h)
+          (refused-lands (rec .stored) n answer n (keeping k v) (λ x. refl)))
 
       -- what is written
-      pub entry-writes : cond (isDone answer) (bytesOf (bare .writes)) [] ≡ bytesOf (comes .writes)
+      pub entry-writes : cond (isDone answer) (bytesOf (does .writes)) [] ≡ bytesOf (comes .writes)
       unfolding endpointAt
       entry-writes = go (isDone answer)
         where
-          go : (b : Bool) → cond b (bytesOf (bare .writes)) []
-              ≡ bytesOf (cond b (actedOf own t n d) (refusedOf answer t n d) .writes)
+          go : (b : Bool) → cond b (bytesOf (does .writes)) []
+              ≡ bytesOf (cond b (actedOf (own rec t k quiet w) t n d) (refusedOf answer t n d) .writes)
           go true = ap bytesOf (sym (law .writes))
           go false = refl
 
-      -- where no value is accepted, nothing is put after what is settled
-      keeps-none : accepted ≡ false → whole-move .keep ≡ length ys
+      -- where nothing is kept, nothing is put after what is settled
+      keeps-none : kept ≡ false → whole-move .keep ≡ length ys
       keeps-none h = go (isDone answer)
         where
           go : (b : Bool) → cond b move (refusedMove spotted answer) .keep ≡ length ys
-          go true = ap (λ (x : Bool). cond (x && bare .endpoint .value .taken) n (length ys)) h
+          go true = ap (λ (x : Bool). cond x n (length ys)) h
           go false = refl
 
-      pub entry-settles : accepted ≡ false → settled ys whole-move ≡ comes .lent .records
+      pub entry-settles : kept ≡ false → settled ys whole-move ≡ comes .lent .records
       entry-settles h =
           let q = keeps-none h in
-          sym (value-past (settled ys whole-move) (whole-move .keep) noBytes (omega (arith, q, length-settled whole-move)))
+          sym (put-past (keeping k noBytes) (settled ys whole-move) (whole-move .keep)
+          (omega (arith, q, length-settled whole-move)))
           ∙ entry-lands noBytes (λ x. absurd (false≢true (sym h ∙ x))) .left
 
   -- ---- a show: never 9, and nothing of its own is stored
   pub record Settles (m : Moved) (r : Result) : Type 0 where
     pub told : m .told ≡ calledOf r
     pub left : settled ys m ≡ r .lent .records
-
-  past-settled : (s : Stored) (steps : ℕ) → valueAt (length ys) noBytes (storedAt (length ys) s (onFirst (ticked t) steps ys))
-      ≡ onFirst (ticked t) steps ys
-  past-settled s steps =
-      let xs = onFirst (ticked t) steps ys in
-      let l = length-first (ticked t) steps ys in
-      value-past (storedAt (length ys) s xs) (length ys) noBytes
-      (omega (arith, l, length-set xs (length ys) (withStored (recordAt xs (length ys)) s)))
-      ∙ stored-past xs (length ys) s (omega (arith, l))
 
   module _ (e : Endpoint) (a : Answer) where
     abbrev show-at : Picked
@@ -307,7 +436,7 @@ module _ (ys : List Record) (c : Call) where
             (cond b (shownIn e t (c .entry) d) (refusedOf a t (c .entry) d))
         go true = record { told = refl; left = past-settled (recordAt ys (c .entry) .stored) (c .gateway .count) }
         go false =
-            let l = refused-lands (recordAt ys (c .entry) .stored) (c .entry) a (c .entry) noBytes (λ x. refl) in
+            let l = refused-lands (recordAt ys (c .entry) .stored) (c .entry) a (c .entry) (λ r. r) (λ x. refl) in
             record {
               told = l .told;
               left = past-settled (recordAt ys (c .entry) .stored) (cond (opens show-at) (c .gateway .count) 0)

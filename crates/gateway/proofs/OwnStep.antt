@@ -2,30 +2,59 @@
 use mathlib.Core.Path.{_≡_, refl, sym, ap, subst, _∙_}
 use mathlib.Core.Bool.{Bool, true, false, cond, false≢true}
 use mathlib.Core.List.{List, []}
-use Prim.Native.Nat.{ℕ}
+use Prim.Native.Nat.{ℕ, _+_, _/_}
 use lib.Dec.{ltb}
-use lib.ListN.{length}
+use lib.ListN.{length, length-append}
 use Rattle.words.specs.Output.{over}
+use Rattle.words.specs.Words.{wordBytes}
 use Rattle.endpoint.specs.declared.Core.{Core}
-use Rattle.endpoint.specs.Endpoint.{Endpoint, bare, coreOf}
+use Rattle.endpoint.specs.Endpoint.{Endpoint, wordsOf, bare, coreOf}
+use Rattle.endpoint.specs.Due.{mayQueue}
+use Rattle.endpoint.specs.Updates.{withWords}
 use Rattle.endpoint.specs.declared.Reason.{Reason}
 use Rattle.endpoint.specs.declared.Reason.the-variants as R
 use Rattle.endpoint.specs.declared.Answer.{Answer}
 use Rattle.endpoint.specs.declared.Answer.the-variants.{Done, Dropped}
-use Rattle.endpoint.specs.Answers.{isDone}
+use Rattle.endpoint.specs.Answers.{firstOf, isDone}
+use Rattle.transitions.specs.ByCall.{queuedOf}
 use Rattle.steps.specs.declared.Stepped.{Stepped}
 use Rattle.steps.specs.declared.Shown.{Shown}
-use Rattle.steps.specs.Frames.{bytesOf}
-use Rattle.steps.specs.Calls.{Outcome, isFailSafe, shownOf}
-use Rattle.steps.specs.Says.{withRoom, steppedOf, StepSays, shownTo, ShowSays}
+use Rattle.steps.specs.Frames.{nothing, bytesOf}
+use Rattle.steps.specs.Calls.{Outcome, outcome, dropped, handFaults, resultWith, queueWith, commandData, shownOf}
+use Rattle.steps.specs.Says.{withRoom, steppedOf, plainStep, StepSays, shownTo, ShowSays}
 use Rattle.steps.proofs.Dispatch.{cond-true, cond-false}
 use Rattle.gateway.specs.declared.Picked.{Picked}
 use Rattle.gateway.specs.declared.Moved.{Moved}
 use Rattle.records.specs.Records.{bareOf}
 use Rattle.gateway.specs.Tables.{isReading}
 use Rattle.gateway.specs.Calls.{admit, admitEntry, timely, isShort}
-use Rattle.gateway.specs.Parts.{admitted, before, refusedMove, actedMove, shownMove, outcomeMove, StepMoves, toShow}
-use Rattle.gateway.specs.Parts.{showAnswer, ShowMoves}
+use Rattle.gateway.specs.Parts.{admitted, before, refusedMove, actedMove, shownMove, plainMove, handedMove}
+use Rattle.gateway.specs.Parts.{StepMoves, toShow, showAnswer, ShowMoves}
+
+-- ---- words that a user hands over: what is told and stored does not turn on their bytes
+either-same : (b : Bool) (x y e : Endpoint) (a : Answer) → coreOf x ≡ coreOf y
+    → plainStep (cond b (outcome Done x nothing) (dropped e a)) ≡ plainStep (cond b (outcome Done y nothing) (dropped e a))
+either-same true x y e a h = ap (λ (c : Core). steppedOf Done c 0) h
+either-same false x y e a h = refl
+
+pub result-same : (e : Endpoint) (n : ℕ) (b b′ : List ℕ) → plainStep (resultWith e n b) ≡ plainStep (resultWith e n b′)
+result-same e n b b′ =
+    let a = firstOf (handFaults (e .settings .slave) n) in
+    either-same (isDone a) (withWords (wordsOf (n / 4) b) e) (withWords (wordsOf (n / 4) b′) e) e a refl
+
+pub queue-same : (e : Endpoint) (n : ℕ) (b b′ : List ℕ) → plainStep (queueWith e n b) ≡ plainStep (queueWith e n b′)
+queue-same e n b b′ =
+    let a = firstOf (handFaults (mayQueue e) n) in
+    either-same (isDone a) (queuedOf e (wordsOf (n / 4) b)) (queuedOf e (wordsOf (n / 4) b′)) e a refl
+
+pub command-length : (word : ℕ) (bytes : List ℕ) → 4 + length bytes ≡ length (commandData word bytes)
+command-length word bytes = sym (length-append (wordBytes word) bytes)
+
+pub handed-moves : (p : Picked) (a : Answer) (s : Stepped) (kept : Bool) (m : Moved) (o : Outcome)
+    → m ≡ plainMove p a s kept → a ≡ before p false R.Entry → kept ≡ isDone (s .answer) → s ≡ plainStep o
+    → m ≡ handedMove p o
+handed-moves p a s kept m o e q k x =
+    e ∙ (λ i. plainMove p (q i) (x i) ((k ∙ ap (λ (y : Stepped). isDone (y .answer)) x) i))
 
 -- a call that goes on was lent enough room
 pub roomy : (reading shorter short : Bool) (then : Answer) → isDone (admit reading shorter short then) ≡ true
@@ -52,10 +81,10 @@ module _ (p : Picked) (out : List ℕ) where
   entered absent then = admitEntry (ltb (p .spot) (p .call .gateway .count)) absent then
 
   -- refused: nothing is written
-  pub refused-moves : (o : Outcome) (accepted : Bool) (a b : Answer) (m : Moved) → b ≡ a → isDone b ≡ false
-      → m ≡ refusedMove p b → StepMoves p a o accepted out out m
+  pub refused-moves : (o : Outcome) (kept : Bool) (a b : Answer) (m : Moved) → b ≡ a → isDone b ≡ false
+      → m ≡ refusedMove p b → StepMoves p a o kept out out m
   unfolding over
-  refused-moves o accepted a b m q h r =
+  refused-moves o kept a b m q h r =
       let n : isDone a ≡ false = ap isDone (sym q) ∙ h in
       record {
         moves = r ∙ ap (refusedMove p) q ∙ sym (cond-false (isDone a) _ (refusedMove p a) n);
@@ -63,14 +92,14 @@ module _ (p : Picked) (out : List ℕ) where
       }
 
   -- the connection's own step
-  pub acted-moves : (act : Endpoint → Outcome) (accepts : Answer → Bool) (absent : Reason) (b : Answer) (e : Core)
+  pub acted-moves : (act : Endpoint → Outcome) (keeps : Answer → Bool) (absent : Reason) (b : Answer) (e : Core)
       (out′ : List ℕ) (s : Stepped) (m : Moved)
       → b ≡ before p (isShort (length out)) absent → isDone b ≡ true → e ≡ coreOf (bareOf (p .stored))
       → StepSays (withRoom (length out) (bare e) (act (bare e))) out out′ s
-      → m ≡ actedMove p s (accepts (s .answer))
+      → m ≡ actedMove p s (keeps (s .answer))
       → StepMoves p (before p (isShort (length out)) absent) (act (bareOf (p .stored)))
-      (accepts (act (bareOf (p .stored)) .answer)) out out′ m
-  acted-moves act accepts absent b e out′ s m q h is v r =
+      (keeps (act (bareOf (p .stored)) .answer)) out out′ m
+  acted-moves act keeps absent b e out′ s m q h is v r =
       let a = before p (isShort (length out)) absent in
       let o = act (bareOf (p .stored)) in
       let g : isDone a ≡ true = ap isDone (sym q) ∙ h in
@@ -82,7 +111,7 @@ module _ (p : Picked) (out : List ℕ) where
       record {
         moves = r ∙ (λ i. let x = (v .answered ∙ ap (λ (y : Outcome). y .answer) w) i in
             actedMove p (steppedOf x ((v .left ∙ ap (λ (y : Outcome). coreOf (y .endpoint)) w) i)
-            ((v .counted ∙ ap (λ (y : Outcome). length (bytesOf (y .writes))) w) i)) (accepts x))
+            ((v .counted ∙ ap (λ (y : Outcome). length (bytesOf (y .writes))) w) i)) (keeps x))
             ∙ sym (cond-true (isDone a) _ (refusedMove p a) g);
         output = v .output ∙ ap (λ (x : Outcome). over (bytesOf (x .writes)) out) w
             ∙ sym (ap (λ (x : Bool). over (cond x (bytesOf (o .writes)) []) out) g);

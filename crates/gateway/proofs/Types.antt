@@ -1,4 +1,4 @@
--- The types of the calls, as the laws of `lent` take them, the two fields of a record, and the gateway in a call.
+-- The types of the calls, as the laws of `lent` take them, the fields of a record, and the gateway in a call.
 use mathlib.Core.Path.{refl}
 use mir.Syntax.{w8, w64}
 use types.Part.{whole, sub}
@@ -11,7 +11,7 @@ use Rattle.lent.proofs.Load as load
 use Rattle.gateway.specs.declared.Gateway.{Gateway}
 use Rattle.gateway.specs.declared.Called.{Called}
 use Rattle.gateway.specs.Exports.{withGateway}
-use Rattle.gateway.specs.Parts.{withStored, withValue}
+use Rattle.gateway.specs.Parts.{withStored, withValue, withWords}
 use Rattle.records.proofs.Stored as F
 use Rattle.records.proofs.Stored.Laws as F′
 use Rattle.records.proofs.Record as R
@@ -45,6 +45,7 @@ stored = of-struct F.the-type F′.the-laws
 abbrev pub stored-plain : Plain stored
 stored-plain = struct-plain F.the-type F′.the-laws F′.the-plain
 
+-- the bytes of its value, and of its words
 abbrev pub value : Data
 value = of-array (of-uint w8) 100
 
@@ -73,6 +74,14 @@ value-in =
     (λ r is. LL.owed R.the-type R′.the-laws r _ is .1 .0)
     (λ r x is is-x. let w = LL.owed R.the-type R′.the-laws r _ is in
     LL.owes R.the-type R′.the-laws (withValue r x) (w .0, (is-x, w .1 .1)))
+
+abbrev pub words-in : Inside rec value
+words-in =
+    array-in rec w8 100 2 180 (λ r. r .words) withWords refl (λ M 𝓤 H A K W t q b o r. sub t 2 refl (whole t))
+    (λ r x. refl)
+    (λ r is. LL.owed R.the-type R′.the-laws r _ is .1 .1 .0)
+    (λ r x is is-x. let w = LL.owed R.the-type R′.the-laws r _ is in
+    LL.owes R.the-type R′.the-laws (withWords r x) (w .0, (w .1 .0, (is-x, w .1 .1 .1))))
 
 abbrev pub call : Data
 call = of-struct N.the-type N′.the-laws

@@ -21,7 +21,8 @@ use Rattle.endpoint.specs.Answers.{isDone, isEnded, numberOf}
 use Rattle.endpoint.specs.Time.{isExpired, afterTick}
 use Rattle.steps.specs.Frames.{Written, nothing, bytesOf}
 use Rattle.steps.specs.Frames as W
-use Rattle.steps.specs.Calls.{Outcome, startOf, sendOf, stopOf, restartOf, setNotReadyOf, isFailSafe, shownOf}
+use Rattle.steps.specs.Calls.{Outcome, startOf, sendOf, stopOf, restartOf, setNotReadyOf, setResultOf, clearResultOf}
+use Rattle.steps.specs.Calls.{invokeOf, isFailSafe, shownOf}
 use Rattle.steps.specs.Deliveries.{deliverOf}
 use Rattle.records.specs.declared.Record.{Record}
 use Rattle.records.specs.Records.{flagOf, recordOf}
@@ -95,7 +96,8 @@ onEntry act absent d t short n =
 abbrev pub isShort : ℕ → Bool
 isShort room = ltb room 248
 
--- ---- start, send, stop, restart, set not ready: of what is lent, the clock reading, the output's length, the entry
+-- ---- start, send, stop, restart, set not ready, set and clear result, invoke: of what is lent, the clock reading, the
+-- output's length, the entry
 abbrev pub startIn : Lent → ℕ → ℕ → Result
 startIn d t n = onEntry (λ e. startOf e t) R.Entry d t false n
 
@@ -110,6 +112,15 @@ restartIn d t n = onEntry (λ e. restartOf e) R.Entry d t false n
 
 abbrev pub setNotReadyIn : Lent → ℕ → ℕ → Bool → Result
 setNotReadyIn d t n b = onEntry (λ e. setNotReadyOf e b) R.Entry d t false n
+
+abbrev pub setResultIn : Lent → ℕ → ℕ → List ℕ → Result
+setResultIn d t n body = onEntry (λ e. setResultOf e body) R.Entry d t false n
+
+abbrev pub clearResultIn : Lent → ℕ → ℕ → Result
+clearResultIn d t n = onEntry (λ e. clearResultOf e) R.Entry d t false n
+
+abbrev pub invokeIn : Lent → ℕ → ℕ → ℕ → List ℕ → Result
+invokeIn d t n word bytes = onEntry (λ e. invokeOf e word bytes) R.Entry d t false n
 
 -- ---- show: never 9; what the clock step left is shown, and stays
 abbrev pub beforeShow : Lent → ℕ → Bool → ℕ → Answer

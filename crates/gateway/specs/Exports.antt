@@ -20,7 +20,7 @@ toldOf t =
 
 -- all else of the call stays
 abbrev pub withGateway : Call → Gateway → Call
-withGateway c g = record { gateway = g; clock = c .clock; entry = c .entry; notready = c .notready }
+withGateway c g = record { gateway = g; clock = c .clock; entry = c .entry; notready = c .notready; word = c .word }
 
 -- a lent call that is lent no output
 pub record LentCallSays (r : Result) (c c′ : Call) (records : List Record) (t : Told) : Type 0 where

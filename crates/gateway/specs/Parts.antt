@@ -18,41 +18,47 @@ use Rattle.endpoint.specs.declared.Reason.the-variants as R
 use Rattle.endpoint.specs.declared.Answer.{Answer}
 use Rattle.endpoint.specs.declared.Answer.the-variants.{Done, Dropped}
 use Rattle.endpoint.specs.Answers.{isDone, isEnded}
+use Rattle.endpoint.specs.Table.{isSetup}
 use Rattle.endpoint.specs.Time.{isExpired, afterTick}
 use Rattle.steps.specs.declared.Stepped.{Stepped}
-use Rattle.steps.specs.Frames.{Written, nothing, bytesOf}
+use Rattle.steps.specs.Frames.{nothing, bytesOf}
 use Rattle.steps.specs.Calls.{Outcome, outcome, isFailSafe, shownOf}
 use Rattle.steps.specs.Deliveries.{deliverOf}
-use Rattle.steps.specs.Says.{steppedOf}
-use Rattle.steps.specs.Values.{withBytes}
+use Rattle.steps.specs.Says.{steppedOf, plainStep}
+use Rattle.steps.specs.Values.{withBytes, withWordBytes}
 use Rattle.settings.specs.Lists.{countOf, isList}
 use Rattle.records.specs.declared.Stored.{Stored}
 use Rattle.records.specs.declared.Record.{Record}
-use Rattle.records.specs.Records.{bareOf, storedOf, recordWith, endedStored}
+use Rattle.records.specs.Records.{stateFrom, bareOf, storedOf, recordWith, endedStored}
 use Rattle.lent.specs.First.{onFirst, seekIn}
-use Rattle.gateway.specs.declared.Gateway.{Gateway}
 use Rattle.gateway.specs.declared.Call.{Call}
 use Rattle.gateway.specs.declared.Called.{Called}
 use Rattle.gateway.specs.declared.Sought.{Sought}
 use Rattle.gateway.specs.declared.Picked.{Picked}
 use Rattle.gateway.specs.declared.Moved.{Moved}
 use Rattle.gateway.specs.declared.Plan.{Plan}
-use Rattle.gateway.specs.Tables.{blankRecord, recordAt, hasConnection, isReading, atClock, ticked}
+use Rattle.gateway.specs.Tables.{blankRecord, recordAt, hasConnection, isReading, atClock}
 use Rattle.gateway.specs.Loading.{loadedWith}
 use Rattle.gateway.specs.Calls.{admit, admitEntry, timely, isShort, reasonOf, calledBy}
 
 -- ---- one field of a record replaced
 abbrev pub withStored : Record → Stored → Record
-withStored r s = recordWith s (r .value)
+withStored r s = recordWith s (r .value) (r .words)
 
 abbrev pub withValue : Record → List ℕ → Record
-withValue r bytes = recordWith (r .stored) bytes
+withValue r bytes = recordWith (r .stored) bytes (r .words)
+
+abbrev pub withWords : Record → List ℕ → Record
+withWords r bytes = recordWith (r .stored) (r .value) bytes
 
 abbrev pub storedAt : ℕ → Stored → List Record → List Record
 storedAt n s rs = set rs n (withStored (recordAt rs n) s)
 
 abbrev pub valueAt : ℕ → List ℕ → List Record → List Record
 valueAt n bytes rs = set rs n (withValue (recordAt rs n) bytes)
+
+abbrev pub wordsAt : ℕ → List ℕ → List Record → List Record
+wordsAt n bytes rs = set rs n (withWords (recordAt rs n) bytes)
 
 -- ---- what a call picks: by its entry, or by a frame's CID
 abbrev pub picked : Stored → Call → ℕ → ℕ → Picked
@@ -63,6 +69,13 @@ pickedOf rs c = picked (recordAt rs (c .entry) .stored) c (length rs) (c .entry)
 
 abbrev pub heldAt : List Record → Call → List ℕ
 heldAt rs c = recordAt rs (c .entry) .value
+
+-- the words are looked at in setup alone; elsewhere what stands past the slice is taken for them
+abbrev pub wordsSpot : Picked → ℕ
+wordsSpot p = cond (isSetup (stateFrom (p .stored .state))) (p .spot) (p .room)
+
+abbrev pub handedAt : List Record → Picked → List ℕ
+handedAt rs p = recordAt rs (wordsSpot p) .words
 
 abbrev pub soughtOf : Call → ℕ → Sought
 soughtOf c cid = record { call = c; connection = cid }
@@ -133,13 +146,13 @@ module _ (p : Picked) where
       (cond (isEnded a) (p .spot) 0) 0 false)
       opens (p .room) (p .room) (p .room)
 
-  -- the connection's own step: its stored part; the value is wiped where none is taken, and a new one kept
+  -- the connection's own step: its stored part; the value is wiped where none is taken, and a new one kept, or words
   abbrev pub actedMove : Stepped → Bool → Moved
-  actedMove s accepted =
+  actedMove s kept =
       moved (storedOf (bare (s .core)))
       (calledBy (atClock (p .call .clock) (p .call .gateway)) (s .answer) true (p .spot) (s .count) false)
       true (p .spot) (cond (s .core .taken) (p .room) (p .spot))
-      (cond (accepted && s .core .taken) (p .spot) (p .room))
+      (cond kept (p .spot) (p .room))
 
   abbrev pub shownMove : ℕ → Bool → Moved
   shownMove count failsafe =
@@ -148,17 +161,21 @@ module _ (p : Picked) where
       true (p .room) (p .room) (p .room)
 
   -- a call that is lent no output
-  abbrev pub plainMove : Answer → Stepped → Moved
-  plainMove a s = cond (isDone a) (actedMove s false) (refusedMove a)
+  abbrev pub plainMove : Answer → Stepped → Bool → Moved
+  plainMove a s kept = cond (isDone a) (actedMove s kept) (refusedMove a)
+
+  -- a call that hands words over, kept where it is done
+  abbrev pub handedMove : Outcome → Moved
+  handedMove o = plainMove (before false R.Entry) (plainStep o) (isDone (o .answer))
 
   -- a call that is lent one
   abbrev pub outcomeMove : Answer → Outcome → Bool → Moved
-  outcomeMove a o accepted =
-      cond (isDone a) (actedMove (steppedOf (o .answer) (coreOf (o .endpoint)) (length (bytesOf (o .writes)))) accepted)
+  outcomeMove a o kept =
+      cond (isDone a) (actedMove (steppedOf (o .answer) (coreOf (o .endpoint)) (length (bytesOf (o .writes)))) kept)
       (refusedMove a)
 
-  pub record StepMoves (a : Answer) (o : Outcome) (accepted : Bool) (out out′ : List ℕ) (m : Moved) : Type 0 where
-    pub moves : m ≡ outcomeMove a o accepted
+  pub record StepMoves (a : Answer) (o : Outcome) (kept : Bool) (out out′ : List ℕ) (m : Moved) : Type 0 where
+    pub moves : m ≡ outcomeMove a o kept
     pub output : out′ ≡ over (cond (isDone a) (bytesOf (o .writes)) []) out
 
   -- a show, of the value's bytes
@@ -174,10 +191,11 @@ module _ (p : Picked) where
         (refusedMove (showAnswer (isShort (length out))))
     pub output : out′ ≡ over (cond (isDone (showAnswer (isShort (length out)))) (shownOf (toShow bytes)) []) out
 
-  -- a deliver
-  abbrev pub frameOutcome : List ℕ → Reading → Outcome
-  frameOutcome s (Refused fault) = outcome Done (bareOf (p .stored)) nothing
-  frameOutcome s (Frame f start end) = deliverOf (bareOf (p .stored)) (p .call .clock) f (slice start end s)
+  -- a deliver, where the words are w
+  abbrev pub frameOutcome : List ℕ → List ℕ → Reading → Outcome
+  frameOutcome w s (Refused fault) = outcome Done (bareOf (p .stored)) nothing
+  frameOutcome w s (Frame f start end) =
+      deliverOf (withWordBytes w (bareOf (p .stored))) (p .call .clock) f (slice start end s)
 
   abbrev pub frameAnswer : Bool → Reading → Answer
   frameAnswer short (Refused fault) = admitted short (Dropped (reasonOf fault))
@@ -188,19 +206,19 @@ module _ (p : Picked) where
   acceptsValue (Frame f start end) a = isDone a && is (f .command) K.Refresh
 
   -- what a frame does, or bytes that are none
-  abbrev pub FrameMoves : List ℕ → Reading → List ℕ → List ℕ → Moved → Type 0
-  FrameMoves s r out out′ m =
-      StepMoves (frameAnswer (isShort (length out)) r) (frameOutcome s r)
-      (acceptsValue r (frameOutcome s r .answer)) out out′ m
+  abbrev pub FrameMoves : List ℕ → List ℕ → Reading → List ℕ → List ℕ → Moved → Type 0
+  FrameMoves w s r out out′ m =
+      StepMoves (frameAnswer (isShort (length out)) r) (frameOutcome w s r)
+      (acceptsValue r (frameOutcome w s r .answer)) out out′ m
 
   pub record EmptyMoves (out out′ : List ℕ) (m : Moved) : Type 0 where
     pub moves : m ≡ refusedMove (admitted (isShort (length out)) Done)
     pub output : out′ ≡ out
 
   -- an empty cycle, or a frame
-  pub record DeliverMoves (s out out′ : List ℕ) (m : Moved) : Type 0 where
+  pub record DeliverMoves (w s out out′ : List ℕ) (m : Moved) : Type 0 where
     pub empty : eqb (length s) 0 ≡ true → EmptyMoves out out′ m
-    pub frame : eqb (length s) 0 ≡ false → FrameMoves s (readingOf s) out out′ m
+    pub frame : eqb (length s) 0 ≡ false → FrameMoves w s (readingOf s) out out′ m
 
 -- ---- loading: what is told, and how many records are made
 abbrev pub planWith : Answer → ℕ → ℕ → Plan

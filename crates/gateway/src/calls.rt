@@ -1,15 +1,18 @@
-// The calls that name an entry: start, restart, set_not_ready, stop, send, show.
+// The calls that name an entry: start, restart, set_not_ready, clear_result, set_result, invoke, stop, send, show.
 ghost use mathlib.Core.Path.{_≡_};
 ghost use mathlib.Core.Bool.{false};
 ghost use lib.ListN.{length};
 ghost use Rattle.endpoint.specs.declared.Reason.the-variants as R;
-ghost use Rattle.steps.specs.Calls.{startOf, sendOf, stopOf, restartOf, setNotReadyOf};
+ghost use Rattle.steps.specs.Frames.{paddedOf};
+ghost use Rattle.steps.specs.Calls.{startOf, sendOf, stopOf, restartOf, setNotReadyOf, setResultOf};
+ghost use Rattle.steps.specs.Calls.{clearResultOf, commandData, invokeOf};
 ghost use Rattle.steps.specs.Says.{plainStep};
+ghost use Rattle.steps.specs.Values.{withWordBytes};
 ghost use Rattle.records.specs.Records.{isSet, bareOf};
 ghost use Rattle.gateway.specs.Tables.{lent};
-ghost use Rattle.gateway.specs.Calls.{isShort, startIn, sendIn, stopIn, restartIn, setNotReadyIn, showIn, CallSays};
-ghost use Rattle.gateway.specs.Calls.{OutputSays};
-ghost use Rattle.gateway.specs.Parts.{before, plainMove, StepMoves, ShowMoves};
+ghost use Rattle.gateway.specs.Calls.{isShort, startIn, sendIn, stopIn, restartIn, setNotReadyIn, setResultIn};
+ghost use Rattle.gateway.specs.Calls.{clearResultIn, invokeIn, showIn, CallSays, OutputSays};
+ghost use Rattle.gateway.specs.Parts.{before, plainMove, handedMove, StepMoves, ShowMoves};
 use super::Call;
 use super::Called;
 use super::Moved;
@@ -21,8 +24,10 @@ use super::moves::plain;
 use super::moves::refused;
 use super::moves::shown;
 use super::slice::pick;
+use super::slice::put_words;
 use super::slice::settle;
 use super::slice::value_at;
+use super::slice::words_at;
 use endpoint::Answer;
 use endpoint::Reason;
 use endpoint::answers::is_done;
@@ -30,32 +35,74 @@ use endpoint::time::tick;
 use frame::LONGEST_FRAME;
 use records::Record;
 use records::core_of;
+use steps::queue::command_data;
+use steps::queue::padded;
 
 // ---- each call's own step, by value
 
 fn do_start(p: Picked) -> Moved
-    ensures { λ r. ⌜ r ≡ plainMove p (before p false R.Entry) (plainStep (startOf (bareOf (p .stored)) (p .call .clock))) ⌝ }
+    ensures { λ r. ⌜ r ≡ plainMove p (before p false R.Entry)
+        (plainStep (startOf (bareOf (p .stored)) (p .call .clock))) false ⌝ }
 {
     let stored = p.stored;
     let step = steps::lifecycle::start(core_of(stored), p.call.clock);
-    plain(before(p, false, Reason::Entry), step, p)
+    plain(before(p, false, Reason::Entry), step, false, p)
 }
 
 fn do_restart(p: Picked) -> Moved
-    ensures { λ r. ⌜ r ≡ plainMove p (before p false R.Entry) (plainStep (restartOf (bareOf (p .stored)))) ⌝ }
+    ensures { λ r. ⌜ r ≡ plainMove p (before p false R.Entry) (plainStep (restartOf (bareOf (p .stored)))) false ⌝ }
 {
     let stored = p.stored;
     let step = steps::lifecycle::restart(core_of(stored));
-    plain(before(p, false, Reason::Entry), step, p)
+    plain(before(p, false, Reason::Entry), step, false, p)
 }
 
 fn do_set_not_ready(p: Picked) -> Moved
     ensures { λ r. ⌜ r ≡ plainMove p (before p false R.Entry)
-        (plainStep (setNotReadyOf (bareOf (p .stored)) (isSet (p .call .notready)))) ⌝ }
+        (plainStep (setNotReadyOf (bareOf (p .stored)) (isSet (p .call .notready)))) false ⌝ }
 {
     let stored = p.stored;
     let step = steps::station::set_not_ready(core_of(stored), p.call.notready != 0);
-    plain(before(p, false, Reason::Entry), step, p)
+    plain(before(p, false, Reason::Entry), step, false, p)
+}
+
+fn do_clear_result(p: Picked) -> Moved
+    ensures { λ r. ⌜ r ≡ plainMove p (before p false R.Entry) (plainStep (clearResultOf (bareOf (p .stored)))) false ⌝ }
+{
+    let stored = p.stored;
+    let step = steps::station::clear_result(core_of(stored));
+    plain(before(p, false, Reason::Entry), step, false, p)
+}
+
+fn do_set_result(p: Picked, bytes: &[u8]) -> Moved
+    ensures { λ r. ⌜ r ≡ handedMove p (setResultOf (bareOf (p .stored)) (now (bytes .entry))) ⌝ }
+{
+    let stored = p.stored;
+    let step = steps::station::set_result(core_of(stored), bytes.len());
+    let answer = step.answer;
+    plain(before(p, false, Reason::Entry), step, is_done(answer), p)
+}
+
+fn do_invoke(p: Picked, bytes: &[u8]) -> Moved
+    ensures { λ r. ⌜ r ≡ handedMove p (invokeOf (bareOf (p .stored)) (p .call .word) (now (bytes .entry))) ⌝ }
+{
+    let stored = p.stored;
+    let step = steps::queue::queue(core_of(stored), 4 + bytes.len());
+    let answer = step.answer;
+    plain(before(p, false, Reason::Entry), step, is_done(answer), p)
+}
+
+// What is kept of the bytes that its user hands over.
+fn result_of(c: Call, bytes: &[u8]) -> [u8; 100]
+    ensures { λ r. ⌜ r ≡ paddedOf (now (bytes .entry)) ⌝ }
+{
+    padded(bytes)
+}
+
+fn command_of(c: Call, bytes: &[u8]) -> [u8; 100]
+    ensures { λ r. ⌜ r ≡ paddedOf (commandData (c .word) (now (bytes .entry))) ⌝ }
+{
+    command_data(c.word, bytes)
 }
 
 fn do_stop(p: Picked, out: &mut [u8]) -> Moved
@@ -71,16 +118,18 @@ fn do_stop(p: Picked, out: &mut [u8]) -> Moved
     acted(step, false, p)
 }
 
-fn do_send(p: Picked, value: &[u8], out: &mut [u8]) -> Moved
+// Its user's words are w.
+fn do_send(p: Picked, w: [u8; 100], value: &[u8], out: &mut [u8]) -> Moved
     ensures { λ r. ⌜ StepMoves p (before p (isShort (length (now (out .entry)))) R.Entry)
-        (sendOf (bareOf (p .stored)) (p .call .clock) (now (value .entry))) false (now (out .entry)) (now (out .exit)) r ⌝ }
+        (sendOf (withWordBytes w (bareOf (p .stored))) (p .call .clock) (now (value .entry))) false
+        (now (out .entry)) (now (out .exit)) r ⌝ }
 {
     let a = before(p, out.len() < LONGEST_FRAME, Reason::Entry);
     if !is_done(a) {
         return refused(a, p);
     }
     let stored = p.stored;
-    let step = steps::send::send(core_of(stored), p.call.clock, value, out);
+    let step = steps::send::send(core_of(stored), &w, p.call.clock, value, out);
     acted(step, false, p)
 }
 
@@ -93,7 +142,7 @@ fn do_show(p: Picked, v: [u8; 100], out: &mut [u8]) -> Moved
         return refused(a, p);
     }
     let stored = p.stored;
-    let s = steps::show::show(tick(core_of(stored), p.call.clock), v, out);
+    let s = steps::show::show(tick(core_of(stored), p.call.clock), &v, out);
     shown(s.count, s.failsafe, p)
 }
 
@@ -127,6 +176,39 @@ pub fn set_not_ready(rs: &mut [Record], c: Call) -> Called
     settle(rs, m)
 }
 
+// A station's user sets the result of S-InvokeFunc, 1 to 25 words: a slave's, in any state.
+pub fn set_result(rs: &mut [Record], c: Call, bytes: &[u8]) -> Called
+    ensures { λ r. ⌜ CallSays (setResultIn (lent (c .gateway) (now (rs .entry))) (c .clock) (c .entry) (now (bytes .entry)))
+        (now (rs .exit)) r ⌝ }
+{
+    let p = pick(rs, c);
+    let m = do_set_result(p, bytes);
+    let v = result_of(c, bytes);
+    let t = settle(rs, m);
+    put_words(rs, m, v)
+}
+
+// And clears it.
+pub fn clear_result(rs: &mut [Record], c: Call) -> Called
+    ensures { λ r. ⌜ CallSays (clearResultIn (lent (c .gateway) (now (rs .entry))) (c .clock) (c .entry)) (now (rs .exit)) r ⌝ }
+{
+    let p = pick(rs, c);
+    let m = do_clear_result(p);
+    settle(rs, m)
+}
+
+// A master's user queues S-InvokeFunc, of the command word and 0 to 24 further words: in setup.
+pub fn invoke(rs: &mut [Record], c: Call, bytes: &[u8]) -> Called
+    ensures { λ r. ⌜ CallSays (invokeIn (lent (c .gateway) (now (rs .entry))) (c .clock) (c .entry) (c .word)
+        (now (bytes .entry))) (now (rs .exit)) r ⌝ }
+{
+    let p = pick(rs, c);
+    let m = do_invoke(p, bytes);
+    let v = command_of(c, bytes);
+    let t = settle(rs, m);
+    put_words(rs, m, v)
+}
+
 // Terminate; a master's writes S-Disconnect.
 pub fn stop(rs: &mut [Record], c: Call, out: &mut [u8]) -> Called
     ensures { λ r. ⌜ OutputSays (stopIn (lent (c .gateway) (now (rs .entry))) (c .clock) (length (now (out .entry))) (c .entry))
@@ -137,13 +219,14 @@ pub fn stop(rs: &mut [Record], c: Call, out: &mut [u8]) -> Called
     settle(rs, m)
 }
 
-// The next setup request, whatever value is lent; in Refresh the value.
+// The next setup request, whatever value is lent, or the queued command; in Refresh the value.
 pub fn send(rs: &mut [Record], c: Call, value: &[u8], out: &mut [u8]) -> Called
     ensures { λ r. ⌜ OutputSays (sendIn (lent (c .gateway) (now (rs .entry))) (c .clock) (length (now (out .entry))) (c .entry)
         (now (value .entry))) (now (rs .exit)) (now (out .entry)) (now (out .exit)) r ⌝ }
 {
     let p = pick(rs, c);
-    let m = do_send(p, value, out);
+    let w = words_at(rs, p);
+    let m = do_send(p, w, value, out);
     settle(rs, m)
 }
 

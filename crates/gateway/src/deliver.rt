@@ -2,7 +2,7 @@
 ghost use mathlib.Core.Path.{_≡_};
 ghost use lib.ListN.{length};
 ghost use Rattle.frame.specs.Reading.{connectionIn, bodyIn};
-ghost use Rattle.steps.specs.Deliveries.{paddedOf};
+ghost use Rattle.steps.specs.Frames.{paddedOf};
 ghost use Rattle.gateway.specs.Tables.{lent};
 ghost use Rattle.gateway.specs.Calls.{reasonOf, deliverIn, OutputSays};
 ghost use Rattle.gateway.specs.Parts.{soughtOf, DeliverMoves};
@@ -18,6 +18,7 @@ use super::moves::refused;
 use super::slice::put_value;
 use super::slice::seek;
 use super::slice::settle;
+use super::slice::words_at;
 use endpoint::Answer;
 use endpoint::Reason;
 use endpoint::answers::is_done;
@@ -31,7 +32,7 @@ use frame::read::connection_in;
 use frame::read::read_frame;
 use records::Record;
 use records::core_of;
-use steps::deliver::padded;
+use steps::queue::padded;
 
 fn reason_of(fault: Fault) -> Reason
     ensures { λ r. ⌜ r ≡ reasonOf fault ⌝ }
@@ -54,9 +55,10 @@ fn hear(c: Call, bytes: &[u8]) -> Sought
     }
 }
 
-// Zero bytes are nothing, other bytes a frame, or numbers 4 to 7. A slave's request writes its reply.
-fn do_deliver(p: Picked, bytes: &[u8], out: &mut [u8]) -> Moved
-    ensures { λ r. ⌜ DeliverMoves p (now (bytes .entry)) (now (out .entry)) (now (out .exit)) r ⌝ }
+// Zero bytes are nothing, other bytes a frame, or numbers 4 to 7. At a slave a request writes its reply, at a master the
+// reply to a queued command its result. Its user's words are w.
+fn do_deliver(p: Picked, w: [u8; 100], bytes: &[u8], out: &mut [u8]) -> Moved
+    ensures { λ r. ⌜ DeliverMoves p w (now (bytes .entry)) (now (out .entry)) (now (out .exit)) r ⌝ }
 {
     let short = out.len() < LONGEST_FRAME;
     if bytes.len() == 0 {
@@ -77,6 +79,7 @@ fn do_deliver(p: Picked, bytes: &[u8], out: &mut [u8]) -> Moved
             let k = fields.command;
             let step = steps::deliver::deliver(
                 core_of(stored),
+                &w,
                 p.call.clock,
                 fields,
                 &bytes[start..end],
@@ -104,7 +107,8 @@ pub fn deliver(rs: &mut [Record], c: Call, bytes: &[u8], out: &mut [u8]) -> Call
 {
     let k = hear(c, bytes);
     let p = seek(rs, k);
-    let m = do_deliver(p, bytes, out);
+    let w = words_at(rs, p);
+    let m = do_deliver(p, w, bytes, out);
     let v = body_of(m, bytes);
     let t = settle(rs, m);
     put_value(rs, m, v)

@@ -4,14 +4,18 @@ ghost use mathlib.Core.Path.{_≡_};
 ghost use lib.ListN.{length};
 ghost use Rattle.records.specs.Records.{isSet};
 ghost use Rattle.gateway.specs.Tables.{lent};
-ghost use Rattle.gateway.specs.Calls.{startIn, sendIn, stopIn, restartIn, setNotReadyIn, showIn, deliverIn};
+ghost use Rattle.gateway.specs.Calls.{startIn, sendIn, stopIn, restartIn, setNotReadyIn, setResultIn, clearResultIn};
+ghost use Rattle.gateway.specs.Calls.{invokeIn, showIn, deliverIn};
 ghost use Rattle.gateway.specs.Exports.{toldOf, LentCallSays, LentOutputSays, LentLoadSays};
 use super::Call;
 use super::Called;
 use super::Told;
+use super::calls::clear_result;
+use super::calls::invoke;
 use super::calls::restart;
 use super::calls::send;
 use super::calls::set_not_ready;
+use super::calls::set_result;
 use super::calls::show;
 use super::calls::start;
 use super::calls::stop;
@@ -58,6 +62,38 @@ pub extern "C" fn folderpink_set_not_ready(c: &mut Call, rs: &mut [Record]) -> T
         (now (c .entry)) (now (c .exit)) (now (rs .exit)) r ⌝ }
 {
     let t = set_not_ready(rs, *c);
+    c.gateway = t.gateway;
+    told(t)
+}
+
+#[no_mangle]
+pub extern "C" fn folderpink_set_result(c: &mut Call, rs: &mut [Record], bytes: &[u8]) -> Told
+    ensures { λ r. ⌜ LentCallSays (setResultIn (lent (now (c .entry) .gateway) (now (rs .entry)))
+        (now (c .entry) .clock) (now (c .entry) .entry) (now (bytes .entry)))
+        (now (c .entry)) (now (c .exit)) (now (rs .exit)) r ⌝ }
+{
+    let t = set_result(rs, *c, bytes);
+    c.gateway = t.gateway;
+    told(t)
+}
+
+#[no_mangle]
+pub extern "C" fn folderpink_clear_result(c: &mut Call, rs: &mut [Record]) -> Told
+    ensures { λ r. ⌜ LentCallSays (clearResultIn (lent (now (c .entry) .gateway) (now (rs .entry)))
+        (now (c .entry) .clock) (now (c .entry) .entry)) (now (c .entry)) (now (c .exit)) (now (rs .exit)) r ⌝ }
+{
+    let t = clear_result(rs, *c);
+    c.gateway = t.gateway;
+    told(t)
+}
+
+#[no_mangle]
+pub extern "C" fn folderpink_invoke(c: &mut Call, rs: &mut [Record], bytes: &[u8]) -> Told
+    ensures { λ r. ⌜ LentCallSays (invokeIn (lent (now (c .entry) .gateway) (now (rs .entry)))
+        (now (c .entry) .clock) (now (c .entry) .entry) (now (c .entry) .word) (now (bytes .entry)))
+        (now (c .entry)) (now (c .exit)) (now (rs .exit)) r ⌝ }
+{
+    let t = invoke(rs, *c, bytes);
     c.gateway = t.gateway;
     told(t)
 }

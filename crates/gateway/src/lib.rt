@@ -18,13 +18,15 @@ pub struct Gateway {
     pub count: usize,
 }
 
-// What a call is asked with; notready is set_not_ready's alone. C lends it, and each call keeps the gateway in it.
+// What a call is asked with; notready is set_not_ready's alone, and the command word invoke's. C lends it, and each call
+// keeps the gateway in it.
 #[repr(C)]
 pub struct Call {
     pub gateway: Gateway,
     pub clock: u64,
     pub entry: usize,
     pub notready: u8,
+    pub word: u32,
 }
 
 // What a call answers: the gateway for the next call; the bytes written to the lent output; the entry, where one is
@@ -54,8 +56,8 @@ pub struct Sought {
     pub connection: u32,
 }
 
-// What a call's own step starts from: all of the record but its value, as it was, the length of the slice, and the
-// record's place in it.
+// What a call's own step starts from: all of the record but the bytes of its value and of its words, as it was, the
+// length of the slice, and the record's place in it.
 pub struct Picked {
     pub stored: Stored,
     pub call: Call,
@@ -64,7 +66,7 @@ pub struct Picked {
 }
 
 // What a call comes to: the first `steps` records take the clock step, then `stored` is put at `spot`, the value at
-// `wipe` is the fail-safe one, and a new value stands at `keep`. Past the slice nothing is stored.
+// `wipe` is the fail-safe one, and a new value, or new words, stand at `keep`. Past the slice nothing is stored.
 pub struct Moved {
     pub stored: Stored,
     pub told: Called,

@@ -56,6 +56,7 @@ fn make(list: &[u32], i: usize) -> Record
     Record {
         stored: stored,
         value: [0; 100],
+        words: [0; 100],
     }
 }
 

@@ -98,7 +98,7 @@ pub(crate) fn before(p: Picked, short: bool, absent: Reason) -> Answer
     admitted_entry(p, short, absent, is_timely(stored, p.call.clock))
 }
 
-fn choose(b: bool, x: usize, y: usize) -> usize
+pub(crate) fn choose(b: bool, x: usize, y: usize) -> usize
     ensures { λ r. ⌜ r ≡ cond b x y ⌝ }
 {
     if b { x } else { y }
@@ -170,9 +170,9 @@ pub(crate) fn refused(a: Answer, p: Picked) -> Moved
     }
 }
 
-// The connection's own step. Accepted: it took a value.
-pub(crate) fn acted(s: Stepped, accepted: bool, p: Picked) -> Moved
-    ensures { λ r. ⌜ r ≡ actedMove p s accepted ⌝ }
+// The connection's own step. Kept: it took a value, or words.
+pub(crate) fn acted(s: Stepped, kept: bool, p: Picked) -> Moved
+    ensures { λ r. ⌜ r ≡ actedMove p s kept ⌝ }
 {
     let call = p.call;
     let g = call.gateway;
@@ -193,7 +193,7 @@ pub(crate) fn acted(s: Stepped, accepted: bool, p: Picked) -> Moved
         clock: call.clock,
         spot: p.spot,
         wipe: choose(taken, p.room, p.spot),
-        keep: choose(accepted & taken, p.spot, p.room),
+        keep: choose(kept, p.spot, p.room),
     }
 }
 
@@ -222,11 +222,11 @@ pub(crate) fn shown(count: usize, failsafe: bool, p: Picked) -> Moved
 }
 
 // A call that is lent no output: refused before the connection's own step, or that step.
-pub(crate) fn plain(a: Answer, s: Stepped, p: Picked) -> Moved
-    ensures { λ r. ⌜ r ≡ plainMove p a s ⌝ }
+pub(crate) fn plain(a: Answer, s: Stepped, kept: bool, p: Picked) -> Moved
+    ensures { λ r. ⌜ r ≡ plainMove p a s kept ⌝ }
 {
     if is_done(a) {
-        return acted(s, false, p);
+        return acted(s, kept, p);
     }
     refused(a, p)
 }

@@ -4,16 +4,18 @@ ghost use mathlib.Core.Path.{_≡_};
 ghost use lib.Dec.{eqb};
 ghost use Rattle.endpoint.specs.Endpoint.{noBytes};
 ghost use Rattle.gateway.specs.Tables.{blankRecord};
-ghost use Rattle.gateway.specs.Parts.{picked, pickedOf, heldAt, metOf, settled, valueAt};
+ghost use Rattle.gateway.specs.Parts.{picked, pickedOf, heldAt, wordsSpot, handedAt, metOf, settled, valueAt, wordsAt};
 use super::Call;
 use super::Called;
 use super::Moved;
 use super::Picked;
 use super::Sought;
+use super::moves::choose;
 use records::Record;
 use records::Stored;
 use records::ended;
 use records::is_over;
+use records::is_setup;
 
 // What stands past the slice.
 pub(crate) fn blank() -> Stored
@@ -39,7 +41,9 @@ pub(crate) fn blank() -> Stored
         hasaccepted: 0,
         hasasked: 0,
         requests: 0,
+        queue: 0,
         notready: 0,
+        words: 0,
         taken: 0,
     }
 }
@@ -69,7 +73,7 @@ fn nowhere(c: Call, n: usize) -> Picked
     found(blank(), c, n)
 }
 
-// All but its value.
+// All but its bytes.
 pub(crate) fn pick(rs: &mut [Record], c: Call) -> Picked
     ensures { λ p. ⌜ (p ≡ pickedOf (now (rs .entry)) c) × (now (rs .exit) ≡ now (rs .entry)) ⌝ }
 {
@@ -103,6 +107,40 @@ pub(crate) fn value_at(rs: &mut [Record], c: Call) -> [u8; 100]
         return no_value(c, n);
     }
     same(rs[i].value, c, n)
+}
+
+// ---- the words of what was picked
+
+// Past the slice outside setup, where no call looks at them, so that they are not copied.
+fn words_spot(p: Picked) -> usize
+    ensures { λ r. ⌜ r ≡ wordsSpot p ⌝ }
+{
+    let stored = p.stored;
+    choose(is_setup(stored), p.spot, p.room)
+}
+
+fn same_words(w: [u8; 100], p: Picked, n: usize) -> [u8; 100]
+    ensures { λ r. ⌜ r ≡ w ⌝ }
+{
+    w
+}
+
+fn no_words(p: Picked, n: usize) -> [u8; 100]
+    ensures { λ r. ⌜ r ≡ noBytes ⌝ }
+{
+    [0; 100]
+}
+
+// The words that its user handed over.
+pub(crate) fn words_at(rs: &mut [Record], p: Picked) -> [u8; 100]
+    ensures { λ w. ⌜ (w ≡ handedAt (now (rs .entry)) p) × (now (rs .exit) ≡ now (rs .entry)) ⌝ }
+{
+    let n = rs.len();
+    let i = words_spot(p);
+    if i >= n {
+        return no_words(p, n);
+    }
+    same_words(rs[i].words, p, n)
 }
 
 // ---- the record of a CID
@@ -202,6 +240,17 @@ pub(crate) fn put_value(rs: &mut [Record], m: Moved, v: [u8; 100]) -> Called
     let i = keep_at(m);
     if i < rs.len() {
         rs[i].value = v;
+    }
+    told_of(m)
+}
+
+// Words that its user handed over.
+pub(crate) fn put_words(rs: &mut [Record], m: Moved, w: [u8; 100]) -> Called
+    ensures { λ r. ⌜ (r ≡ m .told) × (now (rs .exit) ≡ wordsAt (m .keep) w (now (rs .entry))) ⌝ }
+{
+    let i = keep_at(m);
+    if i < rs.len() {
+        rs[i].words = w;
     }
     told_of(m)
 }

@@ -1,5 +1,6 @@
 -- The theorem's premises can be met: two gateways with one station at entry 1, beside other connections, its line
--- started and a value shown there, with other calls in between. The premises and both runs are computed.
+-- started, a command performed and a value shown there, with other calls in between. The premises and both runs are
+-- computed.
 use mathlib.Core.Path.{_≡_, refl, sym, _∙_}
 use mathlib.Core.Bool.{true, false}
 use mathlib.Core.List.{List, [], _∷_, _++_}
@@ -15,8 +16,8 @@ use Rattle.frame.specs.Writing.{headBytes, withCheckWord, twice, subBytes, fram
 use Rattle.endpoint.specs.declared.Reason.the-variants as R
 use Rattle.endpoint.specs.declared.Answer.{Answer}
 use Rattle.endpoint.specs.declared.Answer.the-variants.{Done, Dropped}
-use Rattle.steps.specs.Frames.{Written, nothing, frame, value, sentFields, ackFields, setupData}
-use Rattle.steps.specs.Steps.{start, setNotReady}
+use Rattle.steps.specs.Frames.{Written, nothing, frame, value, sentFields, ackFields, setupData, handedOver}
+use Rattle.steps.specs.Steps.{start, setNotReady, setResult, clearResult, invoke}
 use Rattle.settings.specs.Lists.{connectionAt, settingsAt, isConnectionAt, isNewAt, areConnections, isList}
 use Rattle.records.specs.declared.Record.{Record}
 use Rattle.gateway.specs.Tables.{blankRecord, endpointAt, placeOf, clockStep}
@@ -51,8 +52,7 @@ cid : ℕ
 cid = 0x01020103
 
 loads : LoadedAlike 1 list list′ lent lent′
-unfolding seven station list list′ lent lent′ connectionAt settingsAt isConnectionAt isNewAt areConnections
-    isList
+unfolding seven station list list′ lent lent′ connectionAt settingsAt isConnectionAt isNewAt areConnections isList
 loads = record { done = refl; done′ = refl; entry = lit< tt; entry′ = lit< tt; alike = refl }
 
 data-of : Command → List ℕ
@@ -62,6 +62,13 @@ data-of k = setupData (settingsAt station 0) k
 request : ℕ → Command → ℕ → Event
 request t k baseline =
     event (5001 + t) 248 (deliver (frameBytes (sentFields k false cid t baseline) (data-of k)))
+
+-- the station's result, and the call that sets it
+result : List ℕ
+result = 9 ∷ 8 ∷ 7 ∷ 6 ∷ []
+
+resultSet : Event
+resultSet = event 5034 0 (act (setResult result) 1)
 
 refresh : Event
 refresh = event 5061 248 (deliver (frameBytes (sentFields K.Refresh false cid 60 0) (1 ∷ 2 ∷ 3 ∷ 4 ∷ [])))
@@ -77,6 +84,9 @@ run =
     ∷ event 5012 248 (send 0 [])
     ∷ request 20 K.ConfirmNetwork 0
     ∷ request 30 K.VerifyStation 0
+    ∷ event 5033 0 (act (invoke 7 []) 0)
+    ∷ resultSet
+    ∷ request 35 K.InvokeFunc 0
     ∷ request 40 K.RefreshReady 0
     ∷ request 50 K.RefreshGo 8
     ∷ event 5055 248 (deliver (1 ∷ 2 ∷ 3 ∷ []))
@@ -91,6 +101,9 @@ run′ =
     ∷ event 5012 7 (show 9)
     ∷ request 20 K.ConfirmNetwork 0
     ∷ request 30 K.VerifyStation 0
+    ∷ event 5033 0 (act clearResult 0)
+    ∷ resultSet
+    ∷ request 35 K.InvokeFunc 0
     ∷ request 40 K.RefreshReady 0
     ∷ request 50 K.RefreshGo 8
     ∷ event 5055 0 (act (setNotReady true) 0)
@@ -99,28 +112,34 @@ run′ =
     ∷ event 5070 100 (show 1) ∷ event 5071 248 (show 1) ∷ []
 
 alike : AlikeAll 1 (connectionAt list 1) run run′
-unfolding run run′ request refresh elsewhere data-of seven station list cid connectionAt settingsAt setupData
-    controlOf hasForm hasCheckWord fieldsIn readingOfCopies readingOf headBytes withCheckWord twice subBytes frameBytes
-    bitStep bitSteps byteStep crcFrom crc
+unfolding run run′ request result resultSet refresh elsewhere data-of seven station list cid connectionAt settingsAt
+    setupData controlOf hasForm hasCheckWord fieldsIn readingOfCopies readingOf headBytes withCheckWord twice subBytes
+    frameBytes bitStep bitSteps byteStep crcFrom crc
 alike =
     next (others _ _ _ _ _ refl refl) (next (same _ _ _ refl) (next (others _ _ _ _ _ refl refl)
-    (next (same _ _ _ refl) (next (same _ _ _ refl) (next (same _ _ _ refl) (next (same _ _ _ refl)
-    (next (others _ _ _ _ _ refl refl) (next (same _ _ _ refl) (next (others _ _ _ _ _ refl refl)
-    (next (same _ _ _ refl) (next (same _ _ _ refl) none)))))))))))
+    (next (same _ _ _ refl) (next (same _ _ _ refl) (next (others _ _ _ _ _ refl refl) (next (same _ _ _ refl)
+    (next (same _ _ _ refl) (next (same _ _ _ refl) (next (same _ _ _ refl) (next (others _ _ _ _ _ refl refl)
+    (next (same _ _ _ refl) (next (others _ _ _ _ _ refl refl) (next (same _ _ _ refl)
+    (next (same _ _ _ refl) none))))))))))))))
 
 -- ---- what the station's calls tell
 abbrev tell : Answer → Entry → Written → Told
 tell a n w = record { answer = a; entry = n; writes = w; failsafe = false }
 
-replied : ℕ → Command → Told
-replied t k = tell Done (At 1) (frame (ackFields k false false cid t) (data-of k))
+repliedWith : List ℕ → ℕ → Command → Told
+repliedWith body t k = tell Done (At 1) (frame (ackFields k false false cid t) body)
 
--- a reply to each request; S-Refresh is taken; a show that is lent too little; the value
+replied : ℕ → Command → Told
+replied t k = repliedWith (data-of k) t k
+
+-- a reply to each request, the command's with its result; S-Refresh is taken; a show that is lent too little; the value
 answers : List Told
 answers =
     replied 10 K.Connect
     ∷ replied 20 K.ConfirmNetwork
     ∷ replied 30 K.VerifyStation
+    ∷ tell Done (At 1) nothing
+    ∷ repliedWith result 35 K.InvokeFunc
     ∷ replied 40 K.RefreshReady
     ∷ replied 50 K.RefreshGo
     ∷ tell Done (At 1) nothing
@@ -128,17 +147,17 @@ answers =
     ∷ tell Done (At 1) (value (1 ∷ 2 ∷ 3 ∷ 4 ∷ [])) ∷ []
 
 computed : toldOf 1 (connectionAt list 1) (loadedOf list lent .lent) run ≡ answers
-unfolding run request refresh elsewhere data-of seven station list lent cid replied answers toldOf endpointAt placeOf
-    clockStep connectionAt settingsAt isConnectionAt isNewAt areConnections isList setupData controlOf hasForm
-    hasCheckWord fieldsIn readingOfCopies readingOf headBytes withCheckWord twice subBytes frameBytes bitStep bitSteps
-    byteStep crcFrom crc
+unfolding run request result resultSet refresh elsewhere data-of seven station list lent cid repliedWith replied
+    answers toldOf endpointAt placeOf clockStep connectionAt settingsAt isConnectionAt isNewAt areConnections isList
+    setupData handedOver controlOf hasForm hasCheckWord fieldsIn readingOfCopies readingOf headBytes withCheckWord
+    twice subBytes frameBytes bitStep bitSteps byteStep crcFrom crc
 computed = refl
 
 computed′ : toldOf 1 (connectionAt list 1) (loadedOf list′ lent′ .lent) run′ ≡ answers
-unfolding run′ request refresh elsewhere data-of seven station list list′ lent′ cid replied answers toldOf endpointAt
-    placeOf clockStep connectionAt settingsAt isConnectionAt isNewAt areConnections isList setupData controlOf
-    hasForm hasCheckWord fieldsIn readingOfCopies readingOf headBytes withCheckWord twice subBytes frameBytes bitStep
-    bitSteps byteStep crcFrom crc
+unfolding run′ request result resultSet refresh elsewhere data-of seven station list list′ lent′ cid repliedWith
+    replied answers toldOf endpointAt placeOf clockStep connectionAt settingsAt isConnectionAt isNewAt areConnections
+    isList setupData handedOver controlOf hasForm hasCheckWord fieldsIn readingOfCopies readingOf headBytes
+    withCheckWord twice subBytes frameBytes bitStep bitSteps byteStep crcFrom crc
 computed′ = refl
 
 -- the same by the theorem, from the first run alone

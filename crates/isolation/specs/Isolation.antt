@@ -100,7 +100,8 @@ pub data AlikeAll (e cid : ℕ) : List Event → List Event → Type 0 where
       → AlikeAll e cid (v ∷ vs) (v′ ∷ vs′)
 
 -- ---- "its answers, frames and shown values are the same"
--- what a call tells: its answer and so its number, its entry, the frame or value that it writes, the mark 'fail-safe'
+-- what a call tells: its answer and so its number, its entry, the frame, the value or the result that it writes, the
+-- mark 'fail-safe'
 pub record Told : Type 0 where
   pub answer : Answer
   pub entry : Entry

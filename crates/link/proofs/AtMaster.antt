@@ -13,18 +13,20 @@ use Rattle.frame.specs.Control.{is, codeOf, mayBeBusy}
 use Rattle.endpoint.specs.declared.Settings.{Settings}
 use Rattle.endpoint.specs.declared.State.{State}
 use Rattle.endpoint.specs.declared.State.the-variants.{Close, Starting, EstablishPending, Establish, ParamVerify}
-use Rattle.endpoint.specs.declared.State.the-variants.{RefreshPending, Refresh, Terminate}
+use Rattle.endpoint.specs.declared.State.the-variants.{FuncRunning, RefreshPending, Refresh, Terminate}
 use Rattle.endpoint.specs.declared.Timestamps.{Timestamps}
 use Rattle.endpoint.specs.declared.Pending.the-variants.{Nothing}
-use Rattle.endpoint.specs.Endpoint.{Endpoint}
-use Rattle.endpoint.specs.Table.{isState, isSetup, requestOf}
-use Rattle.endpoint.specs.Due.{requestDue}
+use Rattle.endpoint.specs.declared.Queue.{Queue}
+use Rattle.endpoint.specs.declared.Station.{Station}
+use Rattle.endpoint.specs.Endpoint.{Endpoint, Words}
+use Rattle.endpoint.specs.Table.{isState, isSetup, nextOf, stateTo, requestOf}
+use Rattle.endpoint.specs.Due.{isWaiting, isCommandDue, requestDue}
 use Rattle.endpoint.specs.Time.{span, minus, isExpired, endedOf, allowanceOf, timeOf, ageOf}
 use Rattle.transitions.specs.ByCall.{startedOf, restartedOf, requestedOf, refreshSentOf, stoppedOf}
-use Rattle.transitions.specs.ByFrame.{refreshedOf, confirmedOf, dueAgainOf}
+use Rattle.transitions.specs.ByFrame.{refreshedOf, measuredBy, confirmedOf, dueAgainOf, performedOf}
 use Rattle.steps.specs.Frames.{setupData, dueData, baselineOf, requestFields, refreshFields, disconnectFields}
 use Rattle.steps.specs.Calls.{isFailSafe, shownOf}
-use Rattle.steps.specs.Deliveries.{paddedOf}
+use Rattle.steps.specs.Frames.{paddedOf}
 use Rattle.steps.specs.Laws.{RequestSent, RefreshSent, StopDone, ReplyTaken, RefreshTaken}
 use Rattle.steps.proofs.Dispatch.{cond-false}
 use Rattle.steps.proofs.Keeps.{bcase}
@@ -35,13 +37,13 @@ use Rattle.link.proofs.Invariant.{limit, Terms, Small, MPhase, restM, a
 use Rattle.link.proofs.Invariant.{GoOf, wobble}
 use Rattle.link.proofs.Kept.{m-phase, m-got, m-writes, m-goes, m-takes, held-rises}
 use Rattle.link.proofs.Relation.{termsOf, small-of, whoOf, markOf, marks, topOf, above-top, RelM, Honest, Linked}
-use Rattle.link.proofs.Relation.{setup-timer, refresh-timer, master-time, not-late, not-ahead}
+use Rattle.link.proofs.Relation.{setup-timer, refresh-timer, master-time, not-late, not-ahead, toldOf}
 use Rattle.link.proofs.Ages.{Young, young-more}
 use Rattle.link.proofs.Entries.{marks-snoc, honest-snoc, is-eq, FoundAt, in-log, the-mark, marked-code}
 use Rattle.link.proofs.Entries.{marked-stamp, marked-body}
 use Rattle.link.proofs.Shown.{ShownAt, in-refresh, held-shown}
-use Rattle.link.proofs.Codes.{go-due, go-baseline, request-not-refresh, setup-not-refresh, refresh-not-setup}
-use Rattle.link.proofs.Codes.{pending-setup, busy-due}
+use Rattle.link.proofs.Codes.{go-due, go-baseline, due-not-refresh, setup-not-refresh, refresh-not-setup}
+use Rattle.link.proofs.Codes.{pending-setup, busy-due, command-due}
 
 module _ (c : Clocks) (sm ss : Settings) (p : Paired sm ss) {l : List Sent} {em es : Endpoint} {tm ts : ℕ} (t : ℕ)
     (lim : t ≤ limit)
@@ -98,6 +100,27 @@ module _ (c : Clocks) (sm ss : Settings) (p : Paired sm ss) {l : List Sent} {em 
   pub restarted-m : Linked c sm ss (t + c .master) l (restartedOf em) es tm ts
   restarted-m = rest (restartedOf em) (L .setM) refl refl refl (λ h. absurd (false≢true h)) refl
 
+  pub told-m : (s : Station) (q : Queue) (w : Words) → Linked c sm ss (t + c .master) l (toldOf em s q w) es tm ts
+  told-m s q w =
+      let r = L .relM in
+      record {
+        master = L .master;
+        slave = L .slave;
+        setM = L .setM;
+        setS = L .setS;
+        relM = record {
+          nextOut = r .nextOut;
+          nextIn = r .nextIn;
+          held = r .held;
+          live = λ h. let v = r .live h in record { value = v .value; phase = v .phase; holds = v .holds };
+          pend = λ h x d. let a = r .pend h x d in record { since = a .since; phase = a .phase };
+          ready = λ h d. let g = r .ready h d in record { phase = g .phase; since = g .since };
+        };
+        relS = L .relS;
+        honest = L .honest;
+        inv = L .inv;
+      }
+
   -- a frame is written; the endpoint is then another
   wrote : (e : Endpoint) (w : Sent) (code baseline : ℕ) (body : List ℕ) (phase : MPhase) → e .settings ≡ sm
       → markOf w ≡ mark 0 code t baseline (t + c .master) body → Honest w → topOf (em .timestamps .sent) ≤ t
@@ -145,7 +168,7 @@ module _ (c : Clocks) (sm ss : Settings) (p : Paired sm ss) {l : List Sent} {em 
     asked-honest : Honest asking
     asked-honest = record {
       writer = refl;
-      value = λ h. absurd (true≢false (sym h ∙ request-not-refresh (em .state)));
+      value = λ h. absurd (true≢false (sym h ∙ due-not-refresh (isWaiting (em .setup .queue)) (em .state)));
       busy = λ h. absurd (false≢true h);
     }
 
@@ -154,9 +177,10 @@ module _ (c : Clocks) (sm ss : Settings) (p : Paired sm ss) {l : List Sent} {em 
         (mark 0 (codeOf (requestDue em)) t (baselineOf (requestDue em) t (em .setup .measured))
         (t + c .master) (dueData em))) (marks l)
     go-asked h =
-        let k = go-due (em .state) h in
+        let w = isWaiting (em .setup .queue) in
+        let k = go-due w (em .state) h in
         let g = L .relM .ready k (d .idle) in
-        let b = go-baseline t (em .setup .measured) (em .state) k in
+        let b = go-baseline t (em .setup .measured) w (em .state) k in
         let u = setup-timer em t x (d .setup) in
         let r : em .settings .roundtrip ≤ 65535 = subst (λ (s : Settings). s .roundtrip ≤ 65535) (sym (L .setM))
         (p .ticksM .roundtrip) in
@@ -173,7 +197,7 @@ module _ (c : Clocks) (sm ss : Settings) (p : Paired sm ss) {l : List Sent} {em 
         let n = setup-not-refresh (em .state) (d .setup) in
         wrote (requestedOf em t) asking (codeOf (requestDue em))
         (baselineOf (requestDue em) t (em .setup .measured))
-        (dueData em) (asked (codeOf (requestDue em)) t) (L .setM)
+        (dueData em) (asked t) (L .setM)
         asked-mark asked-honest
         above-t go-asked refl
         (record {
@@ -182,7 +206,7 @@ module _ (c : Clocks) (sm ss : Settings) (p : Paired sm ss) {l : List Sent} {em 
           held = q .held;
           live = λ h. absurd (true≢false (sym h ∙ n));
           pend = λ h s e. let z : s ≡ t = (let y : timeOf em t ≡ s = cc in sym y ∙ time) in record
-              { since = z; phase = ap (asked (codeOf (requestDue em))) (sym z) };
+              { since = z; phase = ap asked (sym z) };
           ready = λ h e. let z : _≡_ {A = ℕ} 0 1 = cc in absurd (omega arith);
         })
 
@@ -276,96 +300,136 @@ module _ (c : Clocks) (sm ss : Settings) (p : Paired sm ss) {l : List Sent} {em 
       due = is-eq (f .command) (requestDue em) (d .command)
 
       not-refresh : is (f .command) K.Refresh ≡ false
-      not-refresh = ap (λ (q : Command). is q K.Refresh) due ∙ request-not-refresh (em .state)
+      not-refresh = ap (λ (q : Command). is q K.Refresh) due
+          ∙ due-not-refresh (isWaiting (em .setup .queue)) (em .state)
 
-      confirmed : (s : State) → em .state ≡ s → isSetup s ≡ true
-          → Linked c sm ss (t + c .master) l (confirmedOf em t) es tm ts
-      confirmed Close e h = absurd (false≢true h)
-      confirmed Starting e h = rest (confirmedOf em t) (L .setM) refl refl (rw e) (λ z. refl) (rw e)
-      confirmed EstablishPending e h = rest (confirmedOf em t) (L .setM) refl refl (rw e) (λ z. refl) (rw e)
-      confirmed Establish e h = rest (confirmedOf em t) (L .setM) refl refl (rw e) (λ z. refl) (rw e)
-      confirmed ParamVerify e h =
-          let q = L .relM in
-          let a = q .pend (d .setup) (f .timestamp) (d .pending) in
-          let u = setup-timer em t x (d .setup) in
-          let r : em .settings .roundtrip ≡ sm .roundtrip = ap (λ (y : Settings). y .roundtrip) (L .setM) in
-          let i = a .since in
-          let s2 : confirmedOf em t .state ≡ RefreshPending = rw e in
-          let m2 : confirmedOf em t .setup .measured ≡ t = rw e in
-          let ph : L .master .phase ≡ asked 252 (f .timestamp) = a .phase
-          ∙ ap (λ (y : State). asked (codeOf (requestOf y)) (f .timestamp)) e in
-          let w1 : at (marks l) k .who ≡ 1 = ap (λ (y : Mark). y .who) (the-mark f body l k g)
-          ∙ who-is false not-refresh in
-          let w2 : at (marks l) k .code ≡ 252 = ap (λ (y : Mark). y .code) (the-mark f body l k g) ∙ ap codeOf due
-          ∙ ap (λ (y : State). codeOf (requestOf y)) e in
-          let w3 : at (marks l) k .stamp ≡ f .timestamp = ap (λ (y : Mark). y .stamp) (the-mark f body l k g) in
-          record {
-            master = record {
-              nextOut = L .master .nextOut;
-              nextIn = L .master .nextIn;
-              held = L .master .held;
-              phase = got t;
-            };
-            slave = L .slave;
-            setM = L .setM;
-            setS = L .setS;
-            relM = record {
-              nextOut = q .nextOut;
-              nextIn = q .nextIn;
-              held = q .held;
-              live = λ z. absurd (false≢true (sym (ap (λ (y : State). isState y Refresh) s2) ∙ z));
-              pend = λ z y o. let v : _≡_ {A = ℕ} 0 1 = cc in absurd (omega arith);
-              ready = λ z y. record { phase = ap got (sym m2); since = sym m2 };
-            };
-            relS = L .relS;
-            honest = L .honest;
-            inv = m-got (termsOf c sm ss) (small-of c sm ss p) t (f .timestamp) k ph (omega arith) (omega arith)
-                (in-log f body l k g) w1 w2 w3 (L .inv);
-          }
-      confirmed RefreshPending e h =
-          let q = L .relM in
-          let s2 : confirmedOf em t .state ≡ Refresh = rw e in
-          record {
-            master = record {
-              nextOut = L .master .nextOut;
-              nextIn = L .master .nextIn;
-              held = L .master .held;
-              phase = liveM t none;
-            };
-            slave = L .slave;
-            setM = L .setM;
-            setS = L .setS;
-            relM = record {
-              nextOut = q .nextOut;
-              nextIn = q .nextIn;
-              held = q .held;
-              live = λ z. record { value = none; phase = refl; holds = refl };
-              pend = λ z y o. let v : _≡_ {A = ℕ} 0 1 = cc in absurd (omega arith);
-              ready = λ z y. absurd (false≢true (sym (ap (λ (y : State). isState y RefreshPending) s2) ∙ z));
-            };
-            relS = L .relS;
-            honest = L .honest;
-            inv = m-phase (termsOf c sm ss) (small-of c sm ss p) (liveM t none) tt (L .inv);
-          }
-      confirmed Refresh e h = absurd (false≢true h)
-      confirmed Terminate e h = absurd (false≢true h)
+      -- no queued command is due: the reply leads on
+      module _ (n : isCommandDue em ≡ false) where
+        next-due : requestDue em ≡ requestOf (em .state)
+        next-due = cond-false (isCommandDue em) K.InvokeFunc (requestOf (em .state)) n
 
-      -- Busy: nothing is pending, and m2 is not fixed yet
+        leads-to : (s : State) → em .state ≡ s → confirmedOf em t .state ≡ stateTo (nextOf (requestOf s) s) s
+        leads-to s e = ap (λ (k : Command). stateTo (nextOf k (em .state)) (em .state)) next-due
+            ∙ ap (λ (y : State). stateTo (nextOf (requestOf y) y) y) e
+
+        before : (s : State) → em .state ≡ s → isState (stateTo (nextOf (requestOf s) s) s) Refresh ≡ false
+            → isState (stateTo (nextOf (requestOf s) s) s) RefreshPending ≡ false
+            → Linked c sm ss (t + c .master) l (confirmedOf em t) es tm ts
+        before s e a b =
+            rest (confirmedOf em t) (L .setM) refl refl (ap (λ (y : State). isState y Refresh) (leads-to s e) ∙ a)
+            (λ z. refl) (ap (λ (y : State). isState y RefreshPending) (leads-to s e) ∙ b)
+
+        -- S-RefreshReady's: m2
+        ready-m : (s : State) → em .state ≡ s → requestOf s ≡ K.RefreshReady
+            → stateTo (nextOf (requestOf s) s) s ≡ RefreshPending
+            → Linked c sm ss (t + c .master) l (confirmedOf em t) es tm ts
+        ready-m s e asks to =
+            let q = L .relM in
+            let due-ready : requestDue em ≡ K.RefreshReady = next-due ∙ ap requestOf e ∙ asks in
+            let a = q .pend (d .setup) (f .timestamp) (d .pending) in
+            let u = setup-timer em t x (d .setup) in
+            let r : em .settings .roundtrip ≡ sm .roundtrip = ap (λ (y : Settings). y .roundtrip) (L .setM) in
+            let i = a .since in
+            let s2 : confirmedOf em t .state ≡ RefreshPending = leads-to s e ∙ to in
+            let m2 : confirmedOf em t .setup .measured ≡ t =
+            ap (λ (y : Command). measuredBy y t (em .setup .measured)) due-ready in
+            let w1 : at (marks l) k .who ≡ 1 = ap (λ (y : Mark). y .who) (the-mark f body l k g)
+            ∙ who-is false not-refresh in
+            let w2 : at (marks l) k .code ≡ 252 = ap (λ (y : Mark). y .code) (the-mark f body l k g)
+            ∙ ap codeOf (due ∙ due-ready) in
+            let w3 : at (marks l) k .stamp ≡ f .timestamp = ap (λ (y : Mark). y .stamp) (the-mark f body l k g) in
+            record {
+              master = record {
+                nextOut = L .master .nextOut;
+                nextIn = L .master .nextIn;
+                held = L .master .held;
+                phase = got t;
+              };
+              slave = L .slave;
+              setM = L .setM;
+              setS = L .setS;
+              relM = record {
+                nextOut = q .nextOut;
+                nextIn = q .nextIn;
+                held = q .held;
+                live = λ z. absurd (false≢true (sym (ap (λ (y : State). isState y Refresh) s2) ∙ z));
+                pend = λ z y o. let v : _≡_ {A = ℕ} 0 1 = cc in absurd (omega arith);
+                ready = λ z y. record { phase = ap got (sym m2); since = sym m2 };
+              };
+              relS = L .relS;
+              honest = L .honest;
+              inv = m-got (termsOf c sm ss) (small-of c sm ss p) t (f .timestamp) k (a .phase) (omega arith)
+                  (omega arith) (in-log f body l k g) w1 w2 w3 (L .inv);
+            }
+
+        -- S-RefreshGO's: Refresh
+        go-m : em .state ≡ RefreshPending → Linked c sm ss (t + c .master) l (confirmedOf em t) es tm ts
+        go-m e =
+            let q = L .relM in
+            let s2 : confirmedOf em t .state ≡ Refresh = leads-to RefreshPending e in
+            record {
+              master = record {
+                nextOut = L .master .nextOut;
+                nextIn = L .master .nextIn;
+                held = L .master .held;
+                phase = liveM t none;
+              };
+              slave = L .slave;
+              setM = L .setM;
+              setS = L .setS;
+              relM = record {
+                nextOut = q .nextOut;
+                nextIn = q .nextIn;
+                held = q .held;
+                live = λ z. record { value = none; phase = refl; holds = refl };
+                pend = λ z y o. let v : _≡_ {A = ℕ} 0 1 = cc in absurd (omega arith);
+                ready = λ z y. absurd (false≢true (sym (ap (λ (y : State). isState y RefreshPending) s2) ∙ z));
+              };
+              relS = L .relS;
+              honest = L .honest;
+              inv = m-phase (termsOf c sm ss) (small-of c sm ss p) (liveM t none) tt (L .inv);
+            }
+
+        confirmed : (s : State) → em .state ≡ s → isSetup s ≡ true
+            → Linked c sm ss (t + c .master) l (confirmedOf em t) es tm ts
+        confirmed Close e h = absurd (false≢true h)
+        confirmed Starting e h = before Starting e refl refl
+        confirmed EstablishPending e h = before EstablishPending e refl refl
+        confirmed Establish e h = before Establish e refl refl
+        confirmed ParamVerify e h = ready-m ParamVerify e refl refl
+        confirmed FuncRunning e h = ready-m FuncRunning e refl refl
+        confirmed RefreshPending e h = go-m e
+        confirmed Refresh e h = absurd (false≢true h)
+        confirmed Terminate e h = absurd (false≢true h)
+
+      -- a queued command's: nothing is pending, and m2 is not fixed yet
+      performed : isCommandDue em ≡ true → Linked c sm ss (t + c .master) l (performedOf em t) es tm ts
+      performed n =
+          let u = command-due (isWaiting (em .setup .queue)) (em .state) n in
+          rest (performedOf em t) (L .setM) refl refl (u .0) (λ h. refl) (u .1)
+
+      -- Busy: the same
       due-again : f .busy ≡ true → Linked c sm ss (t + c .master) l (dueAgainOf em t) es tm ts
       due-again b =
           let may : mayBeBusy (f .command) ≡ true =
           subst (λ (y : Fields). y .busy ≡ true → mayBeBusy (y .command) ≡ true) (g .fields)
           (L .honest k (g .there) .busy) b in
-          let u = busy-due (em .state) (ap mayBeBusy (sym due) ∙ may) in
+          let u = busy-due (isWaiting (em .setup .queue)) (em .state) (ap mayBeBusy (sym due) ∙ may) in
           rest (dueAgainOf em t) (L .setM) refl refl (u .0) (λ h. refl) (u .1)
 
-      abbrev Heard : Bool → Type 0
-      Heard busy = Linked c sm ss (t + c .master) l (cond busy (dueAgainOf em t) (confirmedOf em t)) es tm ts
+      abbrev Heard : Bool → Bool → Type 0
+      Heard busy queued =
+          Linked c sm ss (t + c .master) l
+          (cond busy (dueAgainOf em t) (cond queued (performedOf em t) (confirmedOf em t))) es tm ts
 
-      pub heard-m : Heard (f .busy)
+      sound : (queued : Bool) → isCommandDue em ≡ queued → Heard false queued
+      sound true n = performed n
+      sound false n = confirmed n (em .state) refl (d .setup)
+
+      pub heard-m : Heard (f .busy) (isCommandDue em)
       heard-m =
-          bcase (f .busy) (λ b. subst Heard (sym b) (due-again b))
-          (λ b. subst Heard (sym b) (confirmed (em .state) refl (d .setup)))
+          bcase (f .busy) (λ b. subst (λ (y : Bool). Heard y (isCommandDue em)) (sym b) (due-again b))
+          (λ b. subst (λ (y : Bool). Heard y (isCommandDue em)) (sym b) (sound (isCommandDue em) refl))
 
     -- an S-Refresh of the slave
     module _ (d : RefreshTaken em t (f .timestamp) body) (r : is (f .command) K.Refresh ≡ true) where

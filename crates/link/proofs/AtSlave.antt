@@ -1,32 +1,34 @@
 -- Each call at the slave keeps the relation to the invariant.
 use mathlib.Core.Path.{_≡_, refl, sym, ap, subst, _∙_}
-use mathlib.Core.Bool.{Bool, true, false, cond, true≢false, false≢true}
+use mathlib.Core.Bool.{Bool, true, false, not, cond, true≢false, false≢true}
 use mathlib.Core.List.{List, [], _∷_, _++_}
 use mathlib.Core.Option.{some, none}
 use Prim.Native.Nat.{ℕ, suc, _+_, _-_, _%_, _≤_, _<_}
 use native.Mathlib.Nat.{mod-eq-of-lt}
 use native.Mathlib.Omega.{arith}
+use lib.ListN.{length}
 use borrow.Author.Tests.{eqb-true}
 use Rattle.frame.specs.declared.Command.{Command}
 use Rattle.frame.specs.declared.Command.the-variants as K
 use Rattle.frame.specs.declared.Fields.{Fields}
-use Rattle.frame.specs.Control.{is, codeOf, mayBeBusy}
+use Rattle.frame.specs.Control.{is, codeOf, waitsForStation, mayBeBusy}
 use mathlib.Mathlib.Data.Bool.Basic.{and-elim-right as and-right}
 use Rattle.endpoint.specs.declared.Settings.{Settings}
 use Rattle.endpoint.specs.declared.State.{State}
 use Rattle.endpoint.specs.declared.State.the-variants.{RefreshPending, Refresh}
 use Rattle.endpoint.specs.declared.Timestamps.{Timestamps}
-use Rattle.endpoint.specs.Endpoint.{Endpoint}
+use Rattle.endpoint.specs.declared.Queue.{Queue}
+use Rattle.endpoint.specs.declared.Station.{Station}
+use Rattle.endpoint.specs.Endpoint.{Endpoint, Words}
 use Rattle.endpoint.specs.declared.Next.{Next}
 use Rattle.endpoint.specs.Table.{isState, isNo, nextOf, stateTo}
-use Rattle.endpoint.specs.Due.{isBusy}
+use Rattle.endpoint.specs.Due.{isHeldBack}
 use Rattle.endpoint.specs.Time.{span, minus, isExpired, isAbove, endedOf, offsetFrom, timeOf, ageOf}
-use Rattle.endpoint.specs.Updates.{withNotReady}
 use Rattle.transitions.specs.ByCall.{restartedOf, refreshSentOf, stoppedOf}
 use Rattle.transitions.specs.ByFrame.{refreshedOf, measuredBy, advancedOf, endedBy, deferredOf}
-use Rattle.steps.specs.Frames.{refreshFields, replyFields}
+use Rattle.steps.specs.Frames.{refreshFields, replyFields, hasResult, isBusy, replyData}
 use Rattle.steps.specs.Calls.{isFailSafe, shownOf}
-use Rattle.steps.specs.Deliveries.{paddedOf}
+use Rattle.steps.specs.Frames.{paddedOf}
 use Rattle.steps.specs.Laws.{RefreshSent, RequestTaken, RefreshTaken}
 use Rattle.steps.proofs.Dispatch.{cond-true}
 use Rattle.steps.proofs.Keeps.{bcase}
@@ -37,11 +39,12 @@ use Rattle.link.proofs.Ages.{NotLate}
 use Rattle.link.proofs.Invariant.{limit, SPhase, restS, armed, liveS, Slave, Inv, SPh, LiveS, wobble}
 use Rattle.link.proofs.Kept.{s-phase, s-hears, s-replies, s-arms, s-goes, s-sends, s-takes, held-rises}
 use Rattle.link.proofs.Relation.{termsOf, small-of, markOf, marks, topOf, above-top, RelS, Honest, Linked}
-use Rattle.link.proofs.Relation.{setup-timer, refresh-timer, slave-time, not-late}
+use Rattle.link.proofs.Relation.{setup-timer, refresh-timer, slave-time, not-late, toldOf}
 use Rattle.link.proofs.Entries.{marks-snoc, honest-snoc, FoundAt, in-log, the-mark, marked-code, marked-stamp}
 use Rattle.link.proofs.Entries.{marked-body}
 use Rattle.link.proofs.Shown.{ShownAt, in-refresh, held-shown}
-use Rattle.link.proofs.Codes.{refresh-not-setup, pending-setup, targetOf, leads, go-from, busy-from}
+use Rattle.link.proofs.Codes.{refresh-not-setup, pending-setup, targetOf, leads, go-from, held-from}
+use Rattle.link.proofs.Codes.{busy-may}
 
 module _ (c : Clocks) (sm ss : Settings) (p : Paired sm ss) {l : List Sent} {em es : Endpoint} {tm ts : ℕ} (t : ℕ)
     (lim : t ≤ limit)
@@ -87,9 +90,8 @@ module _ (c : Clocks) (sm ss : Settings) (p : Paired sm ss) {l : List Sent} {em 
       rest (stoppedOf es t) (L .setS) (ap (λ (b : Timestamps). topOf (b .sent)) q)
       (ap (λ (b : Timestamps). topOf (b .accepted)) q) refl refl
 
-  -- whether the station is ready is nothing that the relation turns on
-  pub told-s : (b : Bool) → Linked c sm ss (t + c .slave) l em (withNotReady b es) tm ts
-  told-s b =
+  pub told-s : (s : Station) (q : Queue) (w : Words) → Linked c sm ss (t + c .slave) l em (toldOf es s q w) tm ts
+  told-s s k w =
       let q = L .relS in
       record {
         master = L .master;
@@ -200,24 +202,24 @@ module _ (c : Clocks) (sm ss : Settings) (p : Paired sm ss) {l : List Sent} {em 
             inv = s-hears (termsOf c sm ss) (small-of c sm ss p) k (in-log f body l k g) marked-who next-below (L .inv);
           }
 
-      -- a reply, with Busy or Error or neither
+      -- a reply, with Busy or Error or neither, and the station's result or the request's S-Data
       abbrev pub replying : Bool → Bool → Sent
       replying busy error = record {
         slave = true;
         moment = t + c .slave;
         fields = replyFields es f busy error;
-        body = body;
+        body = replyData es (f .command) body;
         lent = none;
       }
 
       module _ (busy error : Bool) (may : busy ≡ true → mayBeBusy (f .command) ≡ true)
           (n : is (f .command) K.Refresh ≡ false) where
         reply-mark : markOf (replying busy error)
-            ≡ mark 1 (codeOf (f .command)) (at (marks l) k .stamp) 0 (t + c .slave) body
+            ≡ mark 1 (codeOf (f .command)) (at (marks l) k .stamp) 0 (t + c .slave) (replyData es (f .command) body)
         reply-mark =
             let s : f .timestamp % span ≡ at (marks l) k .stamp = mod-eq-of-lt small-stamp
             ∙ sym (marked-stamp f body l k g) in
-            λ i. mark (cond (n i) 2 1) (codeOf (f .command)) (s i) 0 (t + c .slave) body
+            λ i. mark (cond (n i) 2 1) (codeOf (f .command)) (s i) 0 (t + c .slave) (replyData es (f .command) body)
 
         reply-honest : Honest (replying busy error)
         reply-honest = record { writer = refl; value = λ h. absurd (true≢false (sym h ∙ n)); busy = may }
@@ -232,7 +234,8 @@ module _ (c : Clocks) (sm ss : Settings) (p : Paired sm ss) {l : List Sent} {em 
             } in
             RelS e ts S
             → Inv (termsOf c sm ss) (t + c .slave)
-            (snoc (marks l) (mark 1 (codeOf (f .command)) (at (marks l) k .stamp) 0 (t + c .slave) body))
+            (snoc (marks l) (mark 1 (codeOf (f .command)) (at (marks l) k .stamp) 0 (t + c .slave)
+            (replyData es (f .command) body)))
             (L .master) S
             → Linked c sm ss (t + c .slave) (l ++ (replying busy error ∷ [])) em e tm ts
         replied e phase s r v =
@@ -270,7 +273,8 @@ module _ (c : Clocks) (sm ss : Settings) (p : Paired sm ss) {l : List Sent} {em 
               live = λ z. absurd (true≢false (sym z ∙ r));
               ready = λ z. absurd (true≢false (sym z ∙ h));
             })
-            (s-replies (termsOf c sm ss) (small-of c sm ss p) (t + c .slave) k (codeOf (f .command)) body restS refl
+            (s-replies (termsOf c sm ss) (small-of c sm ss p) (t + c .slave) k (codeOf (f .command))
+            (replyData es (f .command) body) restS refl
             (in-log f body l k g) marked-who next-below tt (L .inv))
 
       -- Busy 0
@@ -284,6 +288,13 @@ module _ (c : Clocks) (sm ss : Settings) (p : Paired sm ss) {l : List Sent} {em 
       -- a request that is done
       module _ (d : RequestTaken es t f body) (x : isExpired es t ≡ false) (n : is (f .command) K.Refresh ≡ false)
           (o : is (f .command) K.Disconnect ≡ false) where
+        abbrev busy : Bool
+        busy = isBusy es (f .command) (length body)
+
+        may : busy ≡ true → mayBeBusy (f .command) ≡ true
+        may = busy-may (es .station .notready) (waitsForStation (f .command)) (is (f .command) K.InvokeFunc)
+            (not (hasResult es (length body)))
+
         to : (q : Command) → f .command ≡ q → advancedOf es t f .state ≡ targetOf q
         to q e =
             ap (λ (y : Next). stateTo y (es .state)) (leads (f .command) (es .state) (d .turn))
@@ -291,13 +302,13 @@ module _ (c : Clocks) (sm ss : Settings) (p : Paired sm ss) {l : List Sent} {em 
 
         -- S-RefreshReady: s2
         ready-s : f .command ≡ K.RefreshReady
-            → Linked c sm ss (t + c .slave) (l ++ (replying false false ∷ [])) em (advancedOf es t f) tm ts
+            → Linked c sm ss (t + c .slave) (l ++ (replying busy false ∷ [])) em (advancedOf es t f) tm ts
         ready-s e =
             let q = L .relS in
             let s2 = to K.RefreshReady e in
             let m2 : advancedOf es t f .setup .measured ≡ t = ap
             (λ (y : Command). measuredBy y t (es .setup .measured)) e in
-            replied false false plain n (advancedOf es t f) (armed t) (L .setS)
+            replied busy false may n (advancedOf es t f) (armed t) (L .setS)
             (record {
               nextOut = q .nextOut;
               nextIn = ap suc (sym (marked-stamp f body l k g));
@@ -305,13 +316,13 @@ module _ (c : Clocks) (sm ss : Settings) (p : Paired sm ss) {l : List Sent} {em 
               live = λ z. absurd (false≢true (sym (ap (λ (y : State). isState y Refresh) s2) ∙ z));
               ready = λ z. record { phase = ap armed (sym m2); since = sym m2 };
             })
-            (s-arms (termsOf c sm ss) (small-of c sm ss p) t (t + c .slave) k (codeOf (f .command)) body refl refl
-            (omega arith) (in-log f body l k g) marked-who
+            (s-arms (termsOf c sm ss) (small-of c sm ss p) t (t + c .slave) k (codeOf (f .command))
+            (replyData es (f .command) body) refl refl (omega arith) (in-log f body l k g) marked-who
             ((marked-code f body l k g) ∙ ap codeOf e) next-below (L .inv))
 
         -- S-RefreshGO: ts_offset
         go-s : f .command ≡ K.RefreshGo
-            → Linked c sm ss (t + c .slave) (l ++ (replying false false ∷ [])) em (advancedOf es t f) tm ts
+            → Linked c sm ss (t + c .slave) (l ++ (replying busy false ∷ [])) em (advancedOf es t f) tm ts
         go-s e =
             let q = L .relS in
             let s2 = to K.RefreshGo e in
@@ -327,7 +338,7 @@ module _ (c : Clocks) (sm ss : Settings) (p : Paired sm ss) {l : List Sent} {em 
             (λ j. offsetFrom ((marked-stamp f body l k g) j) (marked-baseline j) (es .setup .measured))
             ∙ sym (ap (λ (y : Command). cond (is y K.RefreshGo)
             (offsetFrom (f .timestamp) (f .baseline) (es .setup .measured)) (es .setup .offset)) e) in
-            replied false false plain n (advancedOf es t f)
+            replied busy false may n (advancedOf es t f)
             (liveS (offsetFrom (at (marks l) k .stamp) (at (marks l) k .baseline) (es .setup .measured)) t none)
             (L .setS)
             (record {
@@ -338,46 +349,47 @@ module _ (c : Clocks) (sm ss : Settings) (p : Paired sm ss) {l : List Sent} {em 
               ready = λ z. absurd (false≢true (sym (ap (λ (y : State). isState y RefreshPending) s2) ∙ z));
             })
             (s-goes (termsOf c sm ss) (small-of c sm ss p) t (t + c .slave) k (codeOf (f .command))
-            (es .setup .measured) body (r .phase) refl refl (omega arith)
+            (es .setup .measured) (replyData es (f .command) body) (r .phase) refl refl (omega arith)
             (in-log f body l k g) marked-who ((marked-code f body l k g) ∙ ap codeOf e) next-below (L .inv))
 
         plain-s : (q : Command) → f .command ≡ q → isState (targetOf q) Refresh ≡ false
             → isState (targetOf q) RefreshPending ≡ false
-            → Linked c sm ss (t + c .slave) (l ++ (replying false false ∷ [])) em (advancedOf es t f) tm ts
+            → Linked c sm ss (t + c .slave) (l ++ (replying busy false ∷ [])) em (advancedOf es t f) tm ts
         plain-s q e h i =
-            replied-rest false false plain n (advancedOf es t f) (L .setS) refl refl
+            replied-rest busy false may n (advancedOf es t f) (L .setS) refl refl
             (ap (λ (y : State). isState y Refresh) (to q e) ∙ h)
             (ap (λ (y : State). isState y RefreshPending) (to q e) ∙ i)
 
         by-command : (q : Command) → f .command ≡ q
-            → Linked c sm ss (t + c .slave) (l ++ (replying false false ∷ [])) em (advancedOf es t f) tm ts
+            → Linked c sm ss (t + c .slave) (l ++ (replying busy false ∷ [])) em (advancedOf es t f) tm ts
         by-command K.Connect e = plain-s K.Connect e refl refl
         by-command K.ConfirmNetwork e = plain-s K.ConfirmNetwork e refl refl
         by-command K.VerifyStation e = plain-s K.VerifyStation e refl refl
+        by-command K.InvokeFunc e = plain-s K.InvokeFunc e refl refl
         by-command K.RefreshReady e = ready-s e
         by-command K.RefreshGo e = go-s e
         by-command K.Refresh e = absurd (true≢false (sym (ap (λ (y : Command). is y K.Refresh) e) ∙ n))
         by-command K.Disconnect e = absurd (true≢false (sym (ap (λ (y : Command). is y K.Disconnect) e) ∙ o))
 
-        advanced-s : Linked c sm ss (t + c .slave) (l ++ (replying false false ∷ [])) em (advancedOf es t f) tm ts
+        advanced-s : Linked c sm ss (t + c .slave) (l ++ (replying busy false ∷ [])) em (advancedOf es t f) tm ts
         advanced-s = by-command (f .command) refl
 
-        -- not ready: the slave rests after its Busy reply too
-        deferred-s : isBusy es (f .command) ≡ true
-            → Linked c sm ss (t + c .slave) (l ++ (replying true false ∷ [])) em (deferredOf es t f) tm ts
+        -- held back: the slave rests after its Busy reply too
+        deferred-s : isHeldBack es (f .command) ≡ true
+            → Linked c sm ss (t + c .slave) (l ++ (replying busy false ∷ [])) em (deferredOf es t f) tm ts
         deferred-s b =
-            let may = and-right (es .station .notready) (mayBeBusy (f .command)) b in
-            let u = busy-from (f .command) may (es .state) (d .turn) in
-            replied-rest true false (λ h. may) n (deferredOf es t f) (L .setS) refl refl (u .0) (u .1)
+            let w = and-right (es .station .notready) (waitsForStation (f .command)) b in
+            let u = held-from (f .command) w (es .state) (d .turn) in
+            replied-rest busy false may n (deferredOf es t f) (L .setS) refl refl (u .0) (u .1)
 
         abbrev Answered : Bool → Type 0
-        Answered busy =
+        Answered held =
             Linked c sm ss (t + c .slave) (l ++ (replying busy false ∷ [])) em
-            (cond busy (deferredOf es t f) (advancedOf es t f)) tm ts
+            (cond held (deferredOf es t f) (advancedOf es t f)) tm ts
 
-        pub answered-s : Answered (isBusy es (f .command))
+        pub answered-s : Answered (isHeldBack es (f .command))
         answered-s =
-            bcase (isBusy es (f .command)) (λ b. subst Answered (sym b) (deferred-s b))
+            bcase (isHeldBack es (f .command)) (λ b. subst Answered (sym b) (deferred-s b))
             (λ b. subst Answered (sym b) advanced-s)
 
     -- an S-Refresh of the master

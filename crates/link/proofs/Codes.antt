@@ -1,30 +1,32 @@
 -- Commands by their codes and states by the request due in them.
 use mathlib.Core.Path.{_≡_, refl}
-use mathlib.Core.Bool.{true, false, true≢false, false≢true}
+use mathlib.Core.Bool.{Bool, true, false, _&&_, _||_, cond, true≢false, false≢true}
 use Prim.Native.Nat.{ℕ, _-_, _%_}
 use native.Mathlib.Omega.{arith}
+use mathlib.Mathlib.Data.Bool.Basic.{and-elim-left as and-left}
 use Rattle.frame.specs.declared.Command.{Command}
 use Rattle.frame.specs.declared.Command.the-variants as K
-use Rattle.frame.specs.Control.{codeOf, is, mayBeBusy}
+use Rattle.frame.specs.Control.{codeOf, is, waitsForStation, mayBeBusy}
 use Rattle.endpoint.specs.declared.State.{State}
 use Rattle.endpoint.specs.declared.State.the-variants.{Close, Starting, EstablishPending, Establish, ParamVerify}
-use Rattle.endpoint.specs.declared.State.the-variants.{RefreshPending, Refresh, Terminate}
+use Rattle.endpoint.specs.declared.State.the-variants.{FuncRunning, RefreshPending, Refresh, Terminate}
 use Rattle.endpoint.specs.declared.Next.the-variants.{To}
 use Rattle.endpoint.specs.Table.{isState, isSetup, isNo, nextOf, requestOf}
 use Rattle.steps.specs.Frames.{baselineOf}
 
 -- by cases on the state
-each : (P : State → Type 0) → P Close → P Starting → P EstablishPending → P Establish → P ParamVerify
+each : (P : State → Type 0) → P Close → P Starting → P EstablishPending → P Establish → P ParamVerify → P FuncRunning
     → P RefreshPending → P Refresh → P Terminate
     → (s : State) → P s
-each P a b c d e f g h Close = a
-each P a b c d e f g h Starting = b
-each P a b c d e f g h EstablishPending = c
-each P a b c d e f g h Establish = d
-each P a b c d e f g h ParamVerify = e
-each P a b c d e f g h RefreshPending = f
-each P a b c d e f g h Refresh = g
-each P a b c d e f g h Terminate = h
+each P a b c d e f g h i Close = a
+each P a b c d e f g h i Starting = b
+each P a b c d e f g h i EstablishPending = c
+each P a b c d e f g h i Establish = d
+each P a b c d e f g h i ParamVerify = e
+each P a b c d e f g h i FuncRunning = f
+each P a b c d e f g h i RefreshPending = g
+each P a b c d e f g h i Refresh = h
+each P a b c d e f g h i Terminate = i
 
 no : {A : Type 0} → true ≡ false → A
 no h = absurd (true≢false h)
@@ -32,40 +34,63 @@ no h = absurd (true≢false h)
 off : {A : Type 0} → false ≡ true → A
 off h = absurd (false≢true h)
 
--- S-RefreshGO is due in RefreshPending alone
-pub go-due : (s : State) → codeOf (requestOf s) ≡ 254 → isState s RefreshPending ≡ true
-go-due =
-    each (λ s. codeOf (requestOf s) ≡ 254 → isState s RefreshPending ≡ true)
-    (λ h. absurd (omega arith)) (λ h. absurd (omega arith)) (λ h. absurd (omega arith)) (λ h. absurd (omega arith))
-    (λ h. absurd (omega arith))
-    (λ h. refl) (λ h. absurd (omega arith)) (λ h. absurd (omega arith))
+-- requestDue, by whether a command waits and by the state
+abbrev pub isCommandIn : Bool → State → Bool
+isCommandIn waits s = waits && is (requestOf s) K.RefreshReady
 
-pub go-baseline : (t m : ℕ) (s : State) → isState s RefreshPending ≡ true
-    → baselineOf (requestOf s) t m ≡ (t - m) % 65536
+abbrev pub dueIn : Bool → State → Command
+dueIn waits s = cond (isCommandIn waits s) K.InvokeFunc (requestOf s)
+
+-- a property of the request due in each state, and of a queued command
+each-due : (P : State → Command → Type 0) → ((s : State) → P s (requestOf s)) → P ParamVerify K.InvokeFunc
+    → P FuncRunning K.InvokeFunc → (waits : Bool) (s : State) → P s (dueIn waits s)
+each-due P p q r false s = p s
+each-due P p q r true s = each (λ s. P s (dueIn true s)) (p Close) (p Starting) (p EstablishPending) (p Establish) q r
+    (p RefreshPending) (p Refresh) (p Terminate) s
+
+-- S-RefreshGO is due in RefreshPending alone
+pub go-due : (waits : Bool) (s : State) → codeOf (dueIn waits s) ≡ 254 → isState s RefreshPending ≡ true
+go-due =
+    each-due (λ s k. codeOf k ≡ 254 → isState s RefreshPending ≡ true)
+    (each (λ s. codeOf (requestOf s) ≡ 254 → isState s RefreshPending ≡ true)
+    (λ h. absurd (omega arith)) (λ h. absurd (omega arith)) (λ h. absurd (omega arith)) (λ h. absurd (omega arith))
+    (λ h. absurd (omega arith)) (λ h. absurd (omega arith))
+    (λ h. refl) (λ h. absurd (omega arith)) (λ h. absurd (omega arith)))
+    (λ h. absurd (omega arith)) (λ h. absurd (omega arith))
+
+pub go-baseline : (t m : ℕ) (waits : Bool) (s : State) → isState s RefreshPending ≡ true
+    → baselineOf (dueIn waits s) t m ≡ (t - m) % 65536
 go-baseline t m =
-    each (λ s. isState s RefreshPending ≡ true → baselineOf (requestOf s) t m ≡ (t - m) % 65536) off off off off off
-    (λ h. refl) off off
+    each-due (λ s k. isState s RefreshPending ≡ true → baselineOf k t m ≡ (t - m) % 65536)
+    (each (λ s. isState s RefreshPending ≡ true → baselineOf (requestOf s) t m ≡ (t - m) % 65536) off off off off off
+    off (λ h. refl) off off)
+    off off
 
 -- no request is S-Refresh
-pub request-not-refresh : (s : State) → is (requestOf s) K.Refresh ≡ false
-request-not-refresh = each (λ s. is (requestOf s) K.Refresh ≡ false) refl refl refl refl refl refl refl refl
+pub due-not-refresh : (waits : Bool) (s : State) → is (dueIn waits s) K.Refresh ≡ false
+due-not-refresh =
+    each-due (λ s k. is k K.Refresh ≡ false)
+    (each (λ s. is (requestOf s) K.Refresh ≡ false) refl refl refl refl refl refl refl refl refl) refl refl
 
 -- Refresh is no setup state, and RefreshPending is one
 pub setup-not-refresh : (s : State) → isSetup s ≡ true → isState s Refresh ≡ false
 setup-not-refresh = each (λ s. isSetup s ≡ true → isState s Refresh ≡ false) (λ h. refl) (λ h. refl) (λ h. refl)
-    (λ h. refl) (λ h. refl) (λ h. refl) off (λ h. refl)
+    (λ h. refl) (λ h. refl) (λ h. refl) (λ h. refl) off (λ h. refl)
 
 pub refresh-not-setup : (s : State) → isState s Refresh ≡ true → isSetup s ≡ false
-refresh-not-setup = each (λ s. isState s Refresh ≡ true → isSetup s ≡ false) off off off off off off (λ h. refl) off
+refresh-not-setup = each (λ s. isState s Refresh ≡ true → isSetup s ≡ false) off off off off off off off (λ h. refl)
+    off
 
 pub pending-setup : (s : State) → isState s RefreshPending ≡ true → isSetup s ≡ true
-pending-setup = each (λ s. isState s RefreshPending ≡ true → isSetup s ≡ true) off off off off off (λ h. refl) off off
+pending-setup = each (λ s. isState s RefreshPending ≡ true → isSetup s ≡ true) off off off off off off (λ h. refl) off
+    off
 
 -- the one state that each command leads to
 abbrev pub targetOf : Command → State
 targetOf K.Connect = EstablishPending
 targetOf K.ConfirmNetwork = Establish
 targetOf K.VerifyStation = ParamVerify
+targetOf K.InvokeFunc = FuncRunning
 targetOf K.RefreshReady = RefreshPending
 targetOf K.RefreshGo = Refresh
 targetOf K.Refresh = Refresh
@@ -75,39 +100,58 @@ abbrev Leads : Command → State → Type 0
 Leads k s = isNo (nextOf k s) ≡ false → nextOf k s ≡ To (targetOf k)
 
 pub leads : (k : Command) (s : State) → isNo (nextOf k s) ≡ false → nextOf k s ≡ To (targetOf k)
-leads K.Connect = each (Leads K.Connect) (λ h. refl) (λ h. refl) (λ h. refl) no no no no no
-leads K.ConfirmNetwork = each (Leads K.ConfirmNetwork) no no (λ h. refl) no no no no no
-leads K.VerifyStation = each (Leads K.VerifyStation) no no no (λ h. refl) no no no no
-leads K.RefreshReady = each (Leads K.RefreshReady) no no no no (λ h. refl) no no no
-leads K.RefreshGo = each (Leads K.RefreshGo) no no no no no (λ h. refl) no no
-leads K.Refresh = each (Leads K.Refresh) no no no no no no (λ h. refl) no
+leads K.Connect = each (Leads K.Connect) (λ h. refl) (λ h. refl) (λ h. refl) no no no no no no
+leads K.ConfirmNetwork = each (Leads K.ConfirmNetwork) no no (λ h. refl) no no no no no no
+leads K.VerifyStation = each (Leads K.VerifyStation) no no no (λ h. refl) no no no no no
+leads K.InvokeFunc = each (Leads K.InvokeFunc) no no no no (λ h. refl) (λ h. refl) no no no
+leads K.RefreshReady = each (Leads K.RefreshReady) no no no no (λ h. refl) (λ h. refl) no no no
+leads K.RefreshGo = each (Leads K.RefreshGo) no no no no no no (λ h. refl) no no
+leads K.Refresh = each (Leads K.Refresh) no no no no no no no (λ h. refl) no
 leads K.Disconnect = each (Leads K.Disconnect) no (λ h. refl) (λ h. refl) (λ h. refl) (λ h. refl) (λ h. refl)
-    (λ h. refl) no
+    (λ h. refl) (λ h. refl) no
 
 -- S-RefreshGO is taken in RefreshPending alone
 pub go-from : (s : State) → isNo (nextOf K.RefreshGo s) ≡ false → isState s RefreshPending ≡ true
-go-from = each (λ s. isNo (nextOf K.RefreshGo s) ≡ false → isState s RefreshPending ≡ true) no no no no no (λ h. refl)
-    no no
+go-from = each (λ s. isNo (nextOf K.RefreshGo s) ≡ false → isState s RefreshPending ≡ true) no no no no no no
+    (λ h. refl) no no
 
--- Busy comes before s2 and m2 are fixed: neither in RefreshPending nor in Refresh
+-- before s2 and m2 are fixed: neither in RefreshPending nor in Refresh
 abbrev pub Unfixed : State → Type 0
 Unfixed s = (isState s Refresh ≡ false) × (isState s RefreshPending ≡ false)
 
 abbrev Takes : Command → State → Type 0
 Takes k s = isNo (nextOf k s) ≡ false → Unfixed s
 
--- at a slave, where such a request is taken
-pub busy-from : (k : Command) → mayBeBusy k ≡ true → (s : State) → isNo (nextOf k s) ≡ false → Unfixed s
-busy-from K.Connect b = off b
-busy-from K.ConfirmNetwork b = each (Takes K.ConfirmNetwork) no no (λ h. (refl, refl)) no no no no no
-busy-from K.VerifyStation b = each (Takes K.VerifyStation) no no no (λ h. (refl, refl)) no no no no
-busy-from K.RefreshReady b = each (Takes K.RefreshReady) no no no no (λ h. (refl, refl)) no no no
-busy-from K.RefreshGo b = off b
-busy-from K.Refresh b = off b
-busy-from K.Disconnect b = off b
+-- so at a slave, where a request is taken whose reply the station may hold back
+pub held-from : (k : Command) → waitsForStation k ≡ true → (s : State) → isNo (nextOf k s) ≡ false → Unfixed s
+held-from K.Connect b = off b
+held-from K.ConfirmNetwork b = each (Takes K.ConfirmNetwork) no no (λ h. (refl, refl)) no no no no no no
+held-from K.VerifyStation b = each (Takes K.VerifyStation) no no no (λ h. (refl, refl)) no no no no no
+held-from K.InvokeFunc b = off b
+held-from K.RefreshReady b = each (Takes K.RefreshReady) no no no no (λ h. (refl, refl)) (λ h. (refl, refl)) no no no
+held-from K.RefreshGo b = off b
+held-from K.Refresh b = off b
+held-from K.Disconnect b = off b
 
--- at a master, where such a request is due
-pub busy-due : (s : State) → mayBeBusy (requestOf s) ≡ true → Unfixed s
+-- at a master, where a request is due whose reply may have Busy, and where a queued command is due
+pub busy-due : (waits : Bool) (s : State) → mayBeBusy (dueIn waits s) ≡ true → Unfixed s
 busy-due =
-    each (λ s. mayBeBusy (requestOf s) ≡ true → Unfixed s) off off (λ h. (refl, refl)) (λ h. (refl, refl))
-    (λ h. (refl, refl)) off off off
+    each-due (λ s k. mayBeBusy k ≡ true → Unfixed s)
+    (each (λ s. mayBeBusy (requestOf s) ≡ true → Unfixed s) off off (λ h. (refl, refl)) (λ h. (refl, refl))
+    (λ h. (refl, refl)) (λ h. (refl, refl)) off off off)
+    (λ h. (refl, refl)) (λ h. (refl, refl))
+
+pub command-due : (waits : Bool) (s : State) → isCommandIn waits s ≡ true → Unfixed s
+command-due false s h = off h
+command-due true s h = ready-due s h
+  where
+    ready-due : (s : State) → is (requestOf s) K.RefreshReady ≡ true → Unfixed s
+    ready-due = each (λ s. is (requestOf s) K.RefreshReady ≡ true → Unfixed s) off off off off (λ h. (refl, refl))
+        (λ h. (refl, refl)) off off off
+
+-- a reply that has Busy may have it: the station held it back, or work is in progress
+pub busy-may : (held waits invoke works : Bool) → ((held && waits) || (invoke && works)) ≡ true
+    → (waits || invoke) ≡ true
+busy-may held true invoke works h = refl
+busy-may true false invoke works h = and-left invoke works h
+busy-may false false invoke works h = and-left invoke works h

@@ -1,6 +1,6 @@
 -- Any call at the master, and any at the slave, keeps the relation to the invariant; what an end took never falls.
 use mathlib.Core.Path.{_≡_, refl, sym, ap, subst, _∙_}
-use mathlib.Core.Bool.{Bool, true, false, not, Bool·beq, true≢false}
+use mathlib.Core.Bool.{Bool, true, false, not, cond, Bool·beq, true≢false}
 use mathlib.Core.List.{List, _++_, append-nil}
 use mathlib.Core.Logic.{_⊎_, ⊎-elim}
 use Prim.Native.Nat.{ℕ, _+_, _≤_}
@@ -17,8 +17,9 @@ use Rattle.endpoint.specs.Time.{isExpired, isAbove, endedOf}
 use Rattle.transitions.specs.ByCall.{stoppedOf}
 use Rattle.transitions.specs.ByFrame.{endedBy}
 use Rattle.steps.specs.Frames.{nothing}
+use Rattle.steps.specs.Frames as W
 use Rattle.steps.specs.Calls.{Outcome, outcome, sendOf, stopOf}
-use Rattle.steps.specs.Deliveries.{requestFaults, replyFaults, takeRequest, takeReply, deliverOf}
+use Rattle.steps.specs.Deliveries.{requestFaults, isResult, replyFaults, takeRequest, takeReply, deliverOf}
 use Rattle.steps.specs.Laws.{RefreshSent, RequestSent}
 use Rattle.steps.proofs.Dispatch.{cond-true, cond-false, deliver-request, deliver-reply}
 use Rattle.steps.proofs.Dones.{send-done, stop-done, refresh-done, request-done, reply-done}
@@ -58,6 +59,12 @@ module _ (c : Clocks) (sm ss : Settings) (p : Paired sm ss) {l : List Sent} {em 
     silent-m : (call : Call) (a : Answer) (x : Endpoint) → AtM l x tm → KeepsM call (outcome a x nothing)
     silent-m call a x k = subst (λ (y : List Sent). AtM y x tm) (sym (append-nil l)) k
 
+    -- a result is written for the user, and no frame
+    result-m : (f : Fields) (body : List ℕ) (result : Bool) (x : Endpoint) → AtM l x tm
+        → KeepsM (deliver f body) (outcome Done x (cond result (W.value body) nothing))
+    result-m f body true x k = subst (λ (y : List Sent). AtM y x tm) (sym (append-nil l)) k
+    result-m f body false x k = silent-m (deliver f body) Done x k
+
     sent-m : (value : List ℕ) → isExpired em t ≡ false → sendOf em t value .answer ≡ Done
         → KeepsM (send value) (sendOf em t value)
     sent-m value x h =
@@ -84,7 +91,7 @@ module _ (c : Clocks) (sm ss : Settings) (p : Paired sm ss) {l : List Sent} {em 
         go Done e =
             let d = reply-done em t f body e in
             subst (KeepsM (deliver f body)) (sym (d .comes))
-            (silent-m (deliver f body) Done _
+            (result-m f body (isResult f) _
             (M.heard-m c sm ss p t lim L f body k g
             (other-bit em f h ∙ ap not role) d x))
         go (Dropped r) e = rw e (silent-m (deliver f body) (Dropped r) em L)
@@ -100,10 +107,10 @@ module _ (c : Clocks) (sm ss : Settings) (p : Paired sm ss) {l : List Sent} {em 
         bcase (isExpired em t)
         (λ x. rw x (expired false (t + c .master) t l em tm AtM L (M.ended-m c sm ss p t lim L)
         (λ q. M.started-m c sm ss p t lim L) (M.restarted-m c sm ss p t lim L)
-        (λ q b. absurd (true≢false (sym q ∙ role))) call))
+        (M.told-m c sm ss p t lim L) call))
         (λ x. rw x (acted false (t + c .master) t l em tm AtM L (M.ended-m c sm ss p t lim L)
         (λ q. M.started-m c sm ss p t lim L) (M.restarted-m c sm ss p t lim L)
-        (λ q b. absurd (true≢false (sym q ∙ role)))
+        (M.told-m c sm ss p t lim L)
         (λ value d. sent-m value x d) stopped-m
         (λ f body k g q r d.
         let o = other-bit em f q ∙ ap not role in
@@ -190,10 +197,10 @@ module _ (c : Clocks) (sm ss : Settings) (p : Paired sm ss) {l : List Sent} {em 
         bcase (isExpired es t)
         (λ x. rw x (expired true (t + c .slave) t l es ts AtS L (S.ended-s c sm ss p t lim L)
         (λ q. absurd (true≢false (sym slave-role ∙ q))) (S.restarted-s c sm ss p t lim L)
-        (λ q. S.told-s c sm ss p t lim L) call))
+        (S.told-s c sm ss p t lim L) call))
         (λ x. rw x (acted true (t + c .slave) t l es ts AtS L (S.ended-s c sm ss p t lim L)
         (λ q. absurd (true≢false (sym slave-role ∙ q))) (S.restarted-s c sm ss p t lim L)
-        (λ q. S.told-s c sm ss p t lim L)
+        (S.told-s c sm ss p t lim L)
         (λ value d. sent-s value d) stopped-s
         (λ f body k g q r d.
         let o = other-bit es f q ∙ ap not slave-role in

@@ -4,7 +4,7 @@
 use mathlib.Core.Path.{_≡_, refl, sym, ap, subst, _∙_}
 use mathlib.Core.Bool.{Bool, true, false, _&&_, not, cond, Bool·beq, false≢true}
 use mathlib.Core.List.{List, [], _++_, append-nil}
-use Prim.Native.Nat.{ℕ, zero, suc, _+_, _≤_}
+use Prim.Native.Nat.{ℕ, zero, suc, _+_, _/_, _≤_}
 use native.Mathlib.Omega.{arith}
 use lib.ListN.{length}
 use borrow.Author.Tests.{not-true}
@@ -13,25 +13,32 @@ use Rattle.frame.specs.declared.Command.the-variants as K′
 use Rattle.frame.specs.declared.Fields.{Fields}
 use Rattle.frame.specs.Control.{is}
 use Rattle.endpoint.specs.declared.State.the-variants.{Close, Terminate}
-use Rattle.endpoint.specs.Endpoint.{Endpoint}
+use Rattle.endpoint.specs.declared.Queue.{Queue}
+use Rattle.endpoint.specs.declared.Queue.the-variants.{Waiting}
+use Rattle.endpoint.specs.declared.Station.{Station}
+use Rattle.endpoint.specs.Endpoint.{Endpoint, Words, wordsOf}
 use Rattle.endpoint.specs.declared.Reason.{Reason}
 use Rattle.endpoint.specs.declared.Reason.the-variants as R
 use Rattle.endpoint.specs.declared.Answer.{Answer}
 use Rattle.endpoint.specs.declared.Answer.the-variants.{Done, Dropped, Ended}
 use Rattle.endpoint.specs.Answers.{firstOf, isDone, isDropped}
 use Rattle.endpoint.specs.Table.{isState}
+use Rattle.endpoint.specs.Due.{mayQueue}
 use Rattle.endpoint.specs.Time.{endedOf}
-use Rattle.endpoint.specs.Updates.{withNotReady}
 use Rattle.transitions.specs.ByCall.{startedOf, restartedOf}
 use Rattle.transitions.specs.ByFrame.{refreshedOf}
 use Rattle.steps.specs.Frames.{nothing}
 use Rattle.steps.specs.Calls.{Outcome, outcome, dropped, sendOf, stopFaults, stopOf}
-use Rattle.steps.specs.Deliveries.{refreshFaults, paddedOf, takeRefresh, deliverOf}
+use Rattle.steps.specs.Frames.{paddedOf}
+use Rattle.steps.specs.Calls.{handFaults, commandData}
+use Rattle.steps.specs.Deliveries.{refreshFaults, takeRefresh, deliverOf}
 use Rattle.steps.proofs.Dispatch.{cond-true, cond-false, deliver-echo, deliver-refresh}
 use Rattle.steps.proofs.Dones.{send-cases}
 use Rattle.steps.proofs.Keeps.{bcase}
-use Rattle.steps.specs.Steps.{Act, start, stop, restart, setNotReady, Call, act, send, deliver, show, actOf, stepOf}
+use Rattle.steps.specs.Steps.{Act, start, stop, restart, setNotReady, setResult, clearResult, invoke}
+use Rattle.steps.specs.Steps.{Call, act, send, deliver, show, actOf, stepOf}
 use Rattle.link.specs.Runs.{Sent, logged, lastOf, mayDeliver, tookBy}
+use Rattle.link.proofs.Relation.{toldOf}
 use Rattle.link.proofs.Entries.{FoundAt, found-at}
 
 -- ---- a stop is done or dropped
@@ -59,7 +66,7 @@ module _ (slave : Bool) (m t : ℕ) (l : List Sent) (e : Endpoint) (took : ℕ) 
     (base : K l e took) (ended : K l (endedOf e) took)
     (started : e .settings .slave ≡ false → K l (startedOf e t) took)
     (restarted : K l (restartedOf e) took)
-    (told : e .settings .slave ≡ true → (b : Bool) → K l (withNotReady b e) took) where
+    (told : (s : Station) (q : Queue) (w : Words) → K l (toldOf e s q w) took) where
   -- what a call that takes no S-Refresh keeps
   unfoldable pub Keeps : Call → Outcome → Type 0
   Keeps call o = K (l ++ logged slave m call (o .writes)) (o .endpoint) took
@@ -132,6 +139,12 @@ module _ (slave : Bool) (m t : ℕ) (l : List Sent) (e : Endpoint) (took : ℕ) 
         (λ r. not-taken f body (deliverOf e t f body)
         (and-false (isDone (deliverOf e t f body .answer)) (is (f .command) K′.Refresh) r) (other f body k g h r)))
 
+    -- its user tells it something, or is refused
+    tells : (a : Act) (b : Bool) (s : Station) (q : Queue) (w : Words) (r : Answer)
+        → Keeps (act a) (cond b (outcome Done (toldOf e s q w) nothing) (dropped e r))
+    tells a true s q w r = silent (act a) Done (toldOf e s q w) (told s q w)
+    tells a false s q w r = silent (act a) r e base
+
     acts : (a : Act) → Keeps (act a) (actOf e t a)
     unfolding Keeps
     acts start =
@@ -144,11 +157,19 @@ module _ (slave : Bool) (m t : ℕ) (l : List Sent) (e : Endpoint) (took : ℕ) 
         bcase (isState (e .state) Terminate) (λ k. rw k (silent (act restart) Done (restartedOf e) restarted))
         (λ k. rw k (silent (act restart) (Dropped R.Turn) e base))
     acts (setNotReady b) =
-        bcase (e .settings .slave)
-        (λ k. subst (Keeps (act (setNotReady b))) (sym (cond-true (e .settings .slave) _ _ k))
-        (silent (act (setNotReady b)) Done (withNotReady b e) (told k b)))
-        (λ k. subst (Keeps (act (setNotReady b))) (sym (cond-false (e .settings .slave) _ _ k))
-        (silent (act (setNotReady b)) (Dropped R.Turn) e base))
+        tells (setNotReady b) (e .settings .slave) (record { notready = b }) (e .setup .queue) (e .words)
+        (Dropped R.Turn)
+    acts (setResult body) =
+        let a = firstOf (handFaults (e .settings .slave) (length body)) in
+        tells (setResult body) (isDone a) (e .station) (e .setup .queue)
+        (wordsOf (length body / 4) (paddedOf body)) a
+    acts clearResult =
+        tells clearResult (e .settings .slave) (e .station) (e .setup .queue) (wordsOf 0 (e .words .bytes))
+        (Dropped R.Turn)
+    acts (invoke word bytes) =
+        let body = commandData word bytes in
+        let a = firstOf (handFaults (mayQueue e) (length body)) in
+        tells (invoke word bytes) (isDone a) (e .station) Waiting (wordsOf (length body / 4) (paddedOf body)) a
 
     -- every call but a deliver takes nothing
     pub acted : (call : Call) → mayDeliver l call ≡ true → Kept call (stepOf e t call)

@@ -52,10 +52,10 @@ pub elder : (c : Terms) (t m t′ m′ : ℕ) → At c t m → At c t′ m′ �
 elder c t m t′ m′ p q h = omega arith
 
 -- nextOut, nextIn: one above the last stamp sent, taken (0: none); held: one above the place of the S-Refresh last
--- taken
+-- taken. Asked: a request of this stamp has no reply yet; which one it is the reply's own command tells
 pub data MPhase : Type 0 where
   restM : MPhase
-  asked : ℕ → ℕ → MPhase
+  asked : ℕ → MPhase
   got : ℕ → MPhase
   liveM : ℕ → Option (List ℕ) → MPhase
 
@@ -138,7 +138,7 @@ pub record GotOf (c : Terms) (next ready : ℕ) (r : Mark) : Type 0 where
 -- by the next stamp to send and the place held
 abbrev pub MPh : Terms → List Mark → ℕ → ℕ → MPhase → Type 0
 MPh c l n h restM = Unit {0}
-MPh c l n h (asked k s) = suc s ≡ n
+MPh c l n h (asked s) = suc s ≡ n
 MPh c l n h (got r) = Has (GotOf c n r) l
 MPh c l n h (liveM t v) = ValueOf l h (t + c .cm) (c .ageM + c .tripM + wobble) v
 

@@ -58,7 +58,7 @@ go-snoc c l x w h v = let f = v .fits in has-snoc (GoOf c (snoc l w) x) l w
 mph-snoc : (c : Terms) (l : List Mark) (w : Mark) (j i n h : ℕ) (p : MPhase) → Held l j i h → MPh c l n h p
     → MPh c (snoc l w) n h p
 mph-snoc c l w j i n h restM g v = v
-mph-snoc c l w j i n h (asked k s) g v = v
+mph-snoc c l w j i n h (asked s) g v = v
 mph-snoc c l w j i n h (got r) g v = has-snoc (GotOf c n r) l w v
 mph-snoc c l w j i n h (liveM t o) g v = value-snoc l w j i h (t + c .cm) (c .ageM + c .tripM + wobble) o g v
 
@@ -132,7 +132,7 @@ module _ (c : Terms) (ok : Small c) where
       { log = v .log; master = record { out = v .master .out; held = v .master .held; phase = h }; slave = v .slave }
 
   -- the answer to S-RefreshReady
-  pub m-got : {now : ℕ} {l : List Mark} {m : Master} {s : Slave} (t st k : ℕ) → m .phase ≡ asked 252 st
+  pub m-got : {now : ℕ} {l : List Mark} {m : Master} {s : Slave} (t st k : ℕ) → m .phase ≡ asked st
       → now ≤ t + c .cm → t ≤ st + c .tripM → k < size l → at l k .who ≡ 1 → at l k .code ≡ 252 → at l k .stamp ≡ st
       → Inv c now l m s → Inv c now l
       (record { nextOut = m .nextOut; nextIn = m .nextIn; held = m .held; phase = got t }) s

@@ -17,14 +17,15 @@ use Rattle.endpoint.specs.declared.State.the-variants.{Refresh, RefreshPending}
 use Rattle.endpoint.specs.declared.Timestamp.{Timestamp}
 use Rattle.endpoint.specs.declared.Timestamp.the-variants.{Never, At}
 use Rattle.endpoint.specs.declared.Pending.the-variants.{Nothing, Asked}
-use Rattle.endpoint.specs.Endpoint.{Value}
-use Rattle.endpoint.specs.Endpoint.{Endpoint}
+use Rattle.endpoint.specs.declared.Queue.{Queue}
+use Rattle.endpoint.specs.declared.Station.{Station}
+use Rattle.endpoint.specs.Endpoint.{Value, Words, Endpoint}
 use Rattle.endpoint.specs.Table.{isState, isSetup}
-use Rattle.endpoint.specs.Due.{requestDue}
 use Rattle.endpoint.specs.Time.{span, half, masterTime, isAbove, isTooFarAhead, isTooLate, isExpired}
 use Rattle.endpoint.specs.Time.{timeOf}
+use Rattle.endpoint.specs.Updates.{endpointOf, withQueue}
 use Rattle.steps.specs.Frames.{showWidth}
-use Rattle.steps.specs.Deliveries.{paddedOf}
+use Rattle.steps.specs.Frames.{paddedOf}
 use Rattle.link.specs.Runs.{Clocks, Sent, sentAt}
 use Rattle.link.specs.Fresh.{Paired}
 use Rattle.link.proofs.Ages.{compared, le-or-lt, NotLate}
@@ -74,6 +75,12 @@ pub above-top : (o : Timestamp) (s : ℕ) → isAbove o s ≡ true → topOf o �
 above-top Never s h = omega arith
 above-top (At r) s h = ltb-true r s h
 
+-- ---- what its user tells an endpoint: whether the station is ready, the queue, and the words handed over; nothing
+-- that the relation turns on
+abbrev pub toldOf : Endpoint → Station → Queue → Words → Endpoint
+toldOf e s q w =
+    endpointOf (e .settings) (e .state) (e .since) (e .timestamps) (withQueue q e .setup) s w (e .value)
+
 -- ---- the value held
 abbrev pub Holds : Settings → Value → Option (List ℕ) → Type 0
 Holds s v none = v .taken ≡ false
@@ -87,7 +94,7 @@ pub record LiveAtM (e : Endpoint) (m : Master) : Type 0 where
 
 pub record AskedAt (e : Endpoint) (m : Master) (s : ℕ) : Type 0 where
   pub since : s ≡ e .since
-  pub phase : m .phase ≡ asked (codeOf (requestDue e)) s
+  pub phase : m .phase ≡ asked s
 
 pub record GotAt (e : Endpoint) (m : Master) : Type 0 where
   pub phase : m .phase ≡ got (e .setup .measured)

@@ -14,7 +14,7 @@ use Rattle.endpoint.specs.Endpoint.{Endpoint}
 use Rattle.endpoint.specs.Table.{isState}
 use Rattle.steps.specs.Frames.{showWidth}
 use Rattle.steps.specs.Calls.{isFailSafe, heldOr, shownOf}
-use Rattle.steps.specs.Deliveries.{paddedOf}
+use Rattle.steps.specs.Frames.{paddedOf}
 use Rattle.steps.proofs.Shows.{show-width-le}
 use Rattle.link.proofs.Marks.{Mark, size, at}
 use Rattle.link.proofs.Invariant.{Held, ValueOf}

@@ -65,6 +65,7 @@ lentTo (send value) = some value
 lentTo (deliver f body) = none
 lentTo show = none
 
+-- what is written for a user is no frame, whatever bytes it is
 abbrev pub logged : Bool → ℕ → Call → Written → List Sent
 logged slave m call nothing = []
 logged slave m call (frame f body) =

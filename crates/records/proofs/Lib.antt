@@ -1,2 +1,3 @@
--- The inverse of records and endpoints.
+-- The inverse of records and endpoints, and the states by their numbers.
 pub mod Records
+pub mod States

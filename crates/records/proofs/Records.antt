@@ -5,17 +5,18 @@ use mathlib.Core.List.{List}
 use Prim.Native.Nat.{ℕ}
 use Rattle.endpoint.specs.declared.State.{State}
 use Rattle.endpoint.specs.declared.State.the-variants.{Close, Starting, EstablishPending, Establish, ParamVerify}
-use Rattle.endpoint.specs.declared.State.the-variants.{RefreshPending, Refresh, Terminate}
+use Rattle.endpoint.specs.declared.State.the-variants.{FuncRunning, RefreshPending, Refresh, Terminate}
 use Rattle.endpoint.specs.declared.Timestamp.{Timestamp}
 use Rattle.endpoint.specs.declared.Timestamp.the-variants.{Never, At}
 use Rattle.endpoint.specs.declared.Pending.{Pending}
 use Rattle.endpoint.specs.declared.Pending.the-variants.{Nothing, Asked}
+use Rattle.endpoint.specs.declared.Queue.{Queue}
+use Rattle.endpoint.specs.declared.Queue.the-variants.{Empty, Waiting, Closed}
 use Rattle.endpoint.specs.Endpoint.{Endpoint, noBytes}
 use Rattle.endpoint.specs.Table.{rowOf}
 use Rattle.endpoint.specs.Time.{Tidy}
-use Rattle.records.specs.declared.Record.{Record}
 use Rattle.records.specs.Records.{isSet, flagOf, stateFrom, timestampFrom, isAt, timeIn, pendingFrom, isAsked}
-use Rattle.records.specs.Records.{askedIn, endpointOf, recordOf, RecordTheorem}
+use Rattle.records.specs.Records.{askedIn, queueFrom, queueNumber, endpointOf, recordOf, RecordTheorem}
 
 pub flag-back : (b : Bool) → isSet (flagOf b) ≡ b
 flag-back true = refl
@@ -27,6 +28,7 @@ state-back Starting = refl
 state-back EstablishPending = refl
 state-back Establish = refl
 state-back ParamVerify = refl
+state-back FuncRunning = refl
 state-back RefreshPending = refl
 state-back Refresh = refl
 state-back Terminate = refl
@@ -38,6 +40,11 @@ timestamp-back (At t) = refl
 pending-back : (x : Pending) → pendingFrom (isSet (flagOf (isAsked x))) (askedIn x) ≡ x
 pending-back Nothing = refl
 pending-back (Asked t) = refl
+
+queue-back : (q : Queue) → queueFrom (queueNumber q) ≡ q
+queue-back Empty = refl
+queue-back Waiting = refl
+queue-back Closed = refl
 
 bytes-back : (taken : Bool) (bytes : List ℕ) → (taken ≡ false → bytes ≡ noBytes)
     → cond (isSet (flagOf taken)) bytes noBytes ≡ bytes
@@ -53,6 +60,7 @@ back e tidy =
       timestamp-back (e .timestamps .sent),
       timestamp-back (e .timestamps .accepted),
       pending-back (e .setup .pending),
+      queue-back (e .setup .queue),
       flag-back (e .station .notready),
       flag-back (e .value .taken),
     )

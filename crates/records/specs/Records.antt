@@ -7,12 +7,14 @@ use Prim.Native.Nat.{ℕ}
 use lib.Dec.{eqb}
 use Rattle.endpoint.specs.declared.State.{State}
 use Rattle.endpoint.specs.declared.State.the-variants.{Close, Starting, EstablishPending, Establish, ParamVerify}
-use Rattle.endpoint.specs.declared.State.the-variants.{RefreshPending, Refresh, Terminate}
+use Rattle.endpoint.specs.declared.State.the-variants.{FuncRunning, RefreshPending, Refresh, Terminate}
 use Rattle.endpoint.specs.declared.Timestamp.{Timestamp}
 use Rattle.endpoint.specs.declared.Timestamp.the-variants.{Never, At}
 use Rattle.endpoint.specs.declared.Pending.{Pending}
 use Rattle.endpoint.specs.declared.Pending.the-variants.{Nothing, Asked}
-use Rattle.endpoint.specs.Endpoint.{Endpoint, noBytes}
+use Rattle.endpoint.specs.declared.Queue.{Queue}
+use Rattle.endpoint.specs.declared.Queue.the-variants.{Empty, Waiting, Closed}
+use Rattle.endpoint.specs.Endpoint.{Endpoint, noBytes, wordsOf}
 use Rattle.endpoint.specs.Table.{rowOf}
 use Rattle.endpoint.specs.Time.{endedOf, Tidy}
 use Rattle.records.specs.declared.Stored.{Stored}
@@ -25,7 +27,7 @@ isSet x = not (eqb x 0)
 abbrev pub flagOf : Bool → ℕ
 flagOf b = cond b 1 0
 
--- past the eight states a number is Terminate's
+-- past the nine states a number is Terminate's
 abbrev pub stateFrom : ℕ → State
 stateFrom x =
     cond (eqb x 0) Close
@@ -33,8 +35,9 @@ stateFrom x =
     (cond (eqb x 2) EstablishPending
     (cond (eqb x 3) Establish
     (cond (eqb x 4) ParamVerify
-    (cond (eqb x 5) RefreshPending
-    (cond (eqb x 6) Refresh Terminate))))))
+    (cond (eqb x 5) FuncRunning
+    (cond (eqb x 6) RefreshPending
+    (cond (eqb x 7) Refresh Terminate)))))))
 
 abbrev pub timestampFrom : Bool → ℕ → Timestamp
 timestampFrom true t = At t
@@ -60,10 +63,19 @@ abbrev pub askedIn : Pending → ℕ
 askedIn Nothing = 0
 askedIn (Asked t) = t
 
+-- past the three a number is Closed's
+abbrev pub queueFrom : ℕ → Queue
+queueFrom x = cond (eqb x 0) Empty (cond (eqb x 1) Waiting Closed)
+
+abbrev pub queueNumber : Queue → ℕ
+queueNumber Empty = 0
+queueNumber Waiting = 1
+queueNumber Closed = 2
+
 -- ---- a record and its endpoint
--- the endpoint that is stored, with the bytes of its value
-abbrev pub wholeOf : Stored → List ℕ → Endpoint
-wholeOf s bytes = record {
+-- the endpoint that is stored, with the bytes of its value and of its words
+abbrev pub wholeOf : Stored → List ℕ → List ℕ → Endpoint
+wholeOf s bytes words = record {
   settings = record {
     connection = s .connection;
     slave = isSet (s .slave);
@@ -85,21 +97,23 @@ wholeOf s bytes = record {
     measured = s .measured;
     offset = s .offset;
     requests = s .requests;
+    queue = queueFrom (s .queue);
   };
   station = record { notready = isSet (s .notready) };
+  words = wordsOf (s .words) words;
   value = record { taken = isSet (s .taken); bytes = bytes };
 }
 
--- the same with the value's bytes left out: what a call that does not touch them starts from
+-- the same with both left out: what a call that does not touch them starts from
 abbrev pub bareOf : Stored → Endpoint
-bareOf s = wholeOf s noBytes
+bareOf s = wholeOf s noBytes noBytes
 
--- the value's bytes count where a value is taken
+-- the value's bytes count where a value is taken; of the words' nobody looks past their count, so they count as they stand
 abbrev pub heldIn : Record → List ℕ
 heldIn r = cond (isSet (r .stored .taken)) (r .value) noBytes
 
 abbrev pub endpointOf : Record → Endpoint
-endpointOf r = wholeOf (r .stored) (heldIn r)
+endpointOf r = wholeOf (r .stored) (heldIn r) (r .words)
 
 abbrev pub storedOf : Endpoint → Stored
 storedOf e = record {
@@ -122,18 +136,20 @@ storedOf e = record {
   hasaccepted = flagOf (isAt (e .timestamps .accepted));
   hasasked = flagOf (isAsked (e .setup .pending));
   requests = e .setup .requests;
+  queue = queueNumber (e .setup .queue);
   notready = flagOf (e .station .notready);
+  words = e .words .count;
   taken = flagOf (e .value .taken);
 }
 
-abbrev pub recordWith : Stored → List ℕ → Record
-recordWith s bytes = record { stored = s; value = bytes }
+abbrev pub recordWith : Stored → List ℕ → List ℕ → Record
+recordWith s value words = record { stored = s; value = value; words = words }
 
 abbrev pub recordOf : Endpoint → Record
-recordOf e = recordWith (storedOf e) (e .value .bytes)
+recordOf e = recordWith (storedOf e) (e .value .bytes) (e .words .bytes)
 
 -- ---- an end, in numbers
--- Terminate, and no value taken; all else as it stands
+-- Terminate, no command waits, and no value is taken; all else as it stands
 abbrev pub endedStored : Stored → Stored
 endedStored s = record {
   since = s .since;
@@ -155,12 +171,14 @@ endedStored s = record {
   hasaccepted = s .hasaccepted;
   hasasked = s .hasasked;
   requests = s .requests;
+  queue = queueNumber Empty;
   notready = s .notready;
+  words = s .words;
   taken = 0;
 }
 
 abbrev pub endedRecord : Record → Record
-endedRecord r = recordWith (endedStored (r .stored)) noBytes
+endedRecord r = recordWith (endedStored (r .stored)) noBytes (r .words)
 
 -- ---- the two are inverse, and an end in numbers is the endpoint's
 pub record RecordTheorem : Type 0 where

@@ -2,12 +2,13 @@
 // bytes it holds it is some connection's.
 ghost use mathlib.Core.Path.{_≡_};
 ghost use Rattle.endpoint.specs.Endpoint.{bare, coreOf};
-ghost use Rattle.endpoint.specs.Table.{rowOf};
+ghost use Rattle.endpoint.specs.Table.{rowOf, isSetup};
 ghost use Rattle.endpoint.specs.Time.{isExpired};
 ghost use Rattle.records.specs.Records.{isSet, flagOf, stateFrom, timestampFrom, isAt, timeIn, pendingFrom, isAsked};
-ghost use Rattle.records.specs.Records.{askedIn, bareOf, storedOf, endedStored};
+ghost use Rattle.records.specs.Records.{askedIn, queueFrom, queueNumber, bareOf, storedOf, endedStored};
 use endpoint::Core;
 use endpoint::Pending;
+use endpoint::Queue;
 use endpoint::Settings;
 use endpoint::Setup;
 use endpoint::State;
@@ -16,11 +17,25 @@ use endpoint::Timestamp;
 use endpoint::Timestamps;
 use endpoint::time::passed;
 
-// All that a connection keeps, but for its value. A flag is 0, or set; a timestamp counts where its flag is set.
+// All that a connection keeps, but for the bytes of its value and of its words. A flag is 0, or set; a timestamp counts
+// where its flag is set. What a call looks at in every record of the table, the timer and the CID, stands first.
 #[repr(C)]
 pub struct Stored {
     // the clock reading where the timer starts
     pub since: u64,
+    // the settings
+    pub interval: u32,
+    pub roundtrip: u32,
+    pub connection: u32,
+    pub age: u32,
+    pub station: u32,
+    // 0 Close, 1 Starting, 2 EstablishPending, 3 Establish, 4 ParamVerify, 5 FuncRunning, 6 RefreshPending, 7 Refresh;
+    // else Terminate
+    pub state: u8,
+    // of the settings too
+    pub slave: u8,
+    pub masterwords: u8,
+    pub slavewords: u8,
     // the timestamps last sent and last accepted, and that of a master's request that waits for its reply
     pub sent: u64,
     pub accepted: u64,
@@ -28,32 +43,27 @@ pub struct Stored {
     // s2 or m2, and ts_offset
     pub measured: u64,
     pub offset: u64,
-    // the settings
-    pub connection: u32,
-    pub interval: u32,
-    pub roundtrip: u32,
-    pub age: u32,
-    pub station: u32,
-    // 0 Close, 1 Starting, 2 EstablishPending, 3 Establish, 4 ParamVerify, 5 RefreshPending, 6 Refresh; else Terminate
-    pub state: u8,
-    pub slave: u8,
-    pub masterwords: u8,
-    pub slavewords: u8,
     pub hassent: u8,
     pub hasaccepted: u8,
     pub hasasked: u8,
     // setup requests written since the last start or loading
     pub requests: u8,
+    // a master's queue: 0 Empty, 1 Waiting; else Closed
+    pub queue: u8,
     pub notready: u8,
+    // how many words its user has handed over: a master's queued command, a station's result; 0 none
+    pub words: u8,
     // whether a value was accepted in this Refresh
     pub taken: u8,
 }
 
-// A value that was taken, with zeros after it; else the fail-safe value.
 #[repr(C)]
 pub struct Record {
     pub stored: Stored,
+    // a value that was taken, with zeros after it; else the fail-safe value
     pub value: [u8; 100],
+    // the words that its user handed over, from the front
+    pub words: [u8; 100],
 }
 
 pub fn is_set(x: u8) -> bool
@@ -77,8 +87,9 @@ fn state_from(x: u8) -> State
         2 => State::EstablishPending,
         3 => State::Establish,
         4 => State::ParamVerify,
-        5 => State::RefreshPending,
-        6 => State::Refresh,
+        5 => State::FuncRunning,
+        6 => State::RefreshPending,
+        7 => State::Refresh,
         _ => State::Terminate,
     }
 }
@@ -92,9 +103,10 @@ fn state_number(s: State) -> u8
         State::EstablishPending => 2,
         State::Establish => 3,
         State::ParamVerify => 4,
-        State::RefreshPending => 5,
-        State::Refresh => 6,
-        State::Terminate => 7,
+        State::FuncRunning => 5,
+        State::RefreshPending => 6,
+        State::Refresh => 7,
+        State::Terminate => 8,
     }
 }
 
@@ -152,6 +164,26 @@ fn asked_in(x: Pending) -> u64
     }
 }
 
+fn queue_from(x: u8) -> Queue
+    ensures { λ r. ⌜ r ≡ queueFrom x ⌝ }
+{
+    match x {
+        0 => Queue::Empty,
+        1 => Queue::Waiting,
+        _ => Queue::Closed,
+    }
+}
+
+fn queue_number(q: Queue) -> u8
+    ensures { λ r. ⌜ r ≡ queueNumber q ⌝ }
+{
+    match q {
+        Queue::Empty => 0,
+        Queue::Waiting => 1,
+        Queue::Closed => 2,
+    }
+}
+
 // The core of the endpoint that is stored.
 pub fn core_of(s: Stored) -> Core
     ensures { λ r. ⌜ r ≡ coreOf (bareOf s) ⌝ }
@@ -178,10 +210,12 @@ pub fn core_of(s: Stored) -> Core
             measured: s.measured,
             offset: s.offset,
             requests: s.requests,
+            queue: queue_from(s.queue),
         },
         station: Station {
             notready: s.notready != 0,
         },
+        words: s.words,
         taken: s.taken != 0,
     }
 }
@@ -196,6 +230,7 @@ pub fn stored_of(e: Core) -> Stored
     let accepted = timestamps.accepted;
     let setup = e.setup;
     let pending = setup.pending;
+    let queue = setup.queue;
     Stored {
         since: e.since,
         sent: time_in(sent),
@@ -216,7 +251,9 @@ pub fn stored_of(e: Core) -> Stored
         hasaccepted: flag_of(is_at(accepted)),
         hasasked: flag_of(is_asked(pending)),
         requests: setup.requests,
+        queue: queue_number(queue),
         notready: flag_of(e.station.notready),
+        words: e.words,
         taken: flag_of(e.taken),
     }
 }
@@ -226,7 +263,8 @@ pub fn ended(s: Stored) -> Stored
     ensures { λ r. ⌜ r ≡ endedStored s ⌝ }
 {
     let mut next = s;
-    next.state = 7;
+    next.state = 8;
+    next.queue = 0;
     next.taken = 0;
     next
 }
@@ -235,14 +273,21 @@ pub fn ended(s: Stored) -> Stored
 pub fn is_over(s: Stored, clock: u64) -> bool
     ensures { λ r. ⌜ r ≡ isExpired (bareOf s) clock ⌝ }
 {
-    if s.state == 6 {
-        return (s.interval as u64) < passed(clock, s.since);
+    if s.state == 7 {
+        if clock < s.since {
+            return false;
+        }
+        return (s.interval as u64) < clock - s.since;
     }
-    if s.state == 0 {
-        return false;
-    }
-    if s.state < 6 {
-        return (s.roundtrip as u64) < passed(clock, s.since);
+    if s.state < 7 {
+        return (s.state != 0) & ((s.roundtrip as u64) < passed(clock, s.since));
     }
     false
+}
+
+// Whether the connection is in setup, by its numbers.
+pub fn is_setup(s: Stored) -> bool
+    ensures { λ r. ⌜ r ≡ isSetup (stateFrom (s .state)) ⌝ }
+{
+    (0 < s.state) & (s.state < 7)
 }

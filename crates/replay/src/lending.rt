@@ -44,6 +44,39 @@ pub(crate) fn set_not_ready(rs: [Record; 70], n: usize, c: Call) -> Answered
     }
 }
 
+pub(crate) fn clear_result(rs: [Record; 70], n: usize, c: Call) -> Answered
+    requires { ⌜ n ≤ 70 ⌝ }
+{
+    let mut a = rs;
+    let called = gateway::calls::clear_result(&mut a[..n], c);
+    Answered {
+        records: a,
+        called: called,
+    }
+}
+
+pub(crate) fn set_result(rs: [Record; 70], n: usize, c: Call, bytes: &[u8]) -> Answered
+    requires { ⌜ n ≤ 70 ⌝ }
+{
+    let mut a = rs;
+    let called = gateway::calls::set_result(&mut a[..n], c, bytes);
+    Answered {
+        records: a,
+        called: called,
+    }
+}
+
+pub(crate) fn invoke(rs: [Record; 70], n: usize, c: Call, bytes: &[u8]) -> Answered
+    requires { ⌜ n ≤ 70 ⌝ }
+{
+    let mut a = rs;
+    let called = gateway::calls::invoke(&mut a[..n], c, bytes);
+    Answered {
+        records: a,
+        called: called,
+    }
+}
+
 pub(crate) fn stop(rs: [Record; 70], n: usize, c: Call, out: &mut [u8]) -> Answered
     requires { ⌜ n ≤ 70 ⌝ }
 {

@@ -81,10 +81,13 @@ fn blank() -> Record {
             hasaccepted: 0,
             hasasked: 0,
             requests: 0,
+            queue: 0,
             notready: 0,
+            words: 0,
             taken: 0,
         },
         value: [0; 100],
+        words: [0; 100],
     }
 }
 
@@ -150,13 +153,26 @@ fn after(r: Replay, answered: Answered, out: &[u8]) -> Replay {
     }
 }
 
-fn call_at(gateway: Gateway, clock: u64, entry: usize, notready: u8) -> Call {
+fn call_at(gateway: Gateway, clock: u64, entry: usize) -> Call {
     Call {
         gateway: gateway,
         clock: clock,
         entry: entry,
-        notready: notready,
+        notready: 0,
+        word: 0,
     }
+}
+
+fn with_not_ready(c: Call) -> Call {
+    let mut next = c;
+    next.notready = 1;
+    next
+}
+
+fn with_word(c: Call, word: u32) -> Call {
+    let mut next = c;
+    next.word = word;
+    next
 }
 
 fn start(r: Replay, c: Call, out: &[u8]) -> Replay {
@@ -177,6 +193,12 @@ fn set_not_ready(r: Replay, c: Call, out: &[u8]) -> Replay {
     after(r, answered, out)
 }
 
+fn clear_result(r: Replay, c: Call, out: &[u8]) -> Replay {
+    let records = r.records;
+    let answered = lending::clear_result(records, records_within(r.lent), c);
+    after(r, answered, out)
+}
+
 fn stop(r: Replay, c: Call, out: &mut [u8]) -> Replay {
     let records = r.records;
     let answered = lending::stop(records, records_within(r.lent), c, out);
@@ -192,14 +214,15 @@ fn show(r: Replay, c: Call, out: &mut [u8]) -> Replay {
 // A call that has a clock reading and an entry alone.
 fn act_on(r: Replay, act: Act, clock: u64, entry: usize, out: &mut [u8]) -> Replay {
     let gateway = r.gateway;
-    let c = call_at(gateway, clock, entry, 0);
+    let c = call_at(gateway, clock, entry);
     match act {
         Act::Start => start(r, c, out),
         Act::Stop => stop(r, c, out),
         Act::Restart => restart(r, c, out),
         Act::Show => show(r, c, out),
-        Act::NotReady => set_not_ready(r, call_at(gateway, clock, entry, 1), out),
+        Act::NotReady => set_not_ready(r, with_not_ready(c), out),
         Act::Ready => set_not_ready(r, c, out),
+        Act::NoResult => clear_result(r, c, out),
     }
 }
 
@@ -214,7 +237,33 @@ fn send(r: Replay, clock: u64, entry: usize, line: &[u8], start: usize, out: &mu
     let gateway = r.gateway;
     let mut bytes = io::buffer();
     let n = text::hex::bytes_from(line, start, &mut bytes);
-    send_bytes(r, call_at(gateway, clock, entry, 0), &bytes, n, out)
+    send_bytes(r, call_at(gateway, clock, entry), &bytes, n, out)
+}
+
+fn set_result_bytes(r: Replay, c: Call, bytes: &[u8], n: usize) -> Replay {
+    let records = r.records;
+    let k = within(n, bytes);
+    let answered = lending::set_result(records, records_within(r.lent), c, &bytes[..k]);
+    after(r, answered, &[])
+}
+
+fn set_result(r: Replay, c: Call, line: &[u8], start: usize) -> Replay {
+    let mut bytes = io::buffer();
+    let n = text::hex::bytes_from(line, start, &mut bytes);
+    set_result_bytes(r, c, &bytes, n)
+}
+
+fn invoke_bytes(r: Replay, c: Call, bytes: &[u8], n: usize) -> Replay {
+    let records = r.records;
+    let k = within(n, bytes);
+    let answered = lending::invoke(records, records_within(r.lent), c, &bytes[..k]);
+    after(r, answered, &[])
+}
+
+fn invoke(r: Replay, c: Call, line: &[u8], start: usize) -> Replay {
+    let mut bytes = io::buffer();
+    let n = text::hex::bytes_from(line, start, &mut bytes);
+    invoke_bytes(r, c, &bytes, n)
 }
 
 fn deliver_bytes(r: Replay, c: Call, bytes: &[u8], n: usize, out: &mut [u8]) -> Replay {
@@ -228,7 +277,7 @@ fn deliver(r: Replay, clock: u64, line: &[u8], start: usize, out: &mut [u8]) -> 
     let gateway = r.gateway;
     let mut bytes = io::buffer();
     let n = text::hex::bytes_from(line, start, &mut bytes);
-    deliver_bytes(r, call_at(gateway, clock, 0, 0), &bytes, n, out)
+    deliver_bytes(r, call_at(gateway, clock, 0), &bytes, n, out)
 }
 
 fn load_words(r: Replay, words: &[u32], n: usize) -> Replay {
@@ -279,6 +328,7 @@ fn set(r: Replay, parameter: Parameter, n: usize) -> Replay {
 
 // One line, without its newline, with an output to lend.
 fn run(r: Replay, line: &[u8], out: &mut [u8]) -> Replay {
+    let gateway = r.gateway;
     let parsed = text::parse::parse(line);
     match parsed {
         Line::Load => load(r, line),
@@ -288,6 +338,22 @@ fn run(r: Replay, line: &[u8], out: &mut [u8]) -> Replay {
             entry,
             start,
         } => send(r, clock, entry as usize, line, start, out),
+        Line::Invoke {
+            clock,
+            entry,
+            word,
+            start,
+        } => invoke(
+            r,
+            with_word(call_at(gateway, clock, entry as usize), word),
+            line,
+            start,
+        ),
+        Line::Result {
+            clock,
+            entry,
+            start,
+        } => set_result(r, call_at(gateway, clock, entry as usize), line, start),
         Line::Deliver { clock, start } => deliver(r, clock, line, start, out),
         Line::Check { start } => with_going(r, check(line, start)),
         Line::Set { parameter, n } => set(r, parameter, n),

@@ -9,7 +9,6 @@ use lib.Dec.{eqb, lit≤}
 use borrow.Author.Tests.{ltb-true, eqb-true, eqb-false}
 use Rattle.frame.specs.Reading.{readingOf}
 use Rattle.frame.proofs.ReadBack.{round-trip}
-use Rattle.endpoint.specs.declared.Settings.{Settings}
 use Rattle.endpoint.specs.Endpoint.{Endpoint}
 use Rattle.endpoint.specs.declared.Answer.{Answer}
 use Rattle.endpoint.specs.Answers.{isDone}
@@ -20,7 +19,7 @@ use Rattle.steps.specs.Calls.{Outcome}
 use Rattle.steps.specs.Steps as S
 use Rattle.steps.specs.Laws.{Carries, requestsIn, isStart}
 use Rattle.steps.proofs.CallLaws.{step-laws}
-use Rattle.steps.proofs.Keeps.{bcase}
+use Rattle.steps.proofs.Keeps.{bcase, Kept}
 use Rattle.records.specs.Records.{recordOf}
 use Rattle.gateway.specs.Tables.{Lent, lent, endpointAt, isTimely, clockStep, afterClock}
 use Rattle.gateway.specs.Loading.{loadedWith}
@@ -76,7 +75,7 @@ module _ (n : ℕ) (d : Lent) (count : ℕ) (H : Held n d count) (t : ℕ) where
     whole = like-whole (like-tick d t) (H .whole);
     same = λ h. let k : n < d .gateway .count = rw (like-tick d t .counts) at h in
         ap (λ (e : Endpoint). e .setup .requests) (ticked-at d t n (H .whole) k)
-        ∙ ap (λ (s : Settings × ℕ). s .1) (tick-keeps (endpointAt d n) t) ∙ H .same k;
+        ∙ ap (λ (s : Kept). s .2) (tick-keeps (endpointAt d n) t) ∙ H .same k;
     most = H .most;
   }
 

@@ -20,7 +20,7 @@ use Rattle.runs.specs.Steps.{Call, act, send, deliver, show, Step, load, call, 
 use Rattle.runs.specs.Bus.{onBus}
 
 -- ---- the count as the answers and the bytes on the bus tell it
--- bytes that the reader takes for a setup request: S-Disconnect is none, nor is a reply
+-- bytes that the reader takes for a setup request, a queued command among them: S-Disconnect is none, nor is a reply
 abbrev pub isRequestIn : Reading → Bool
 isRequestIn (Frame f from to) = isRequest f
 isRequestIn (Refused fault) = false

@@ -20,7 +20,7 @@ use Rattle.endpoint.specs.Time.{isExpired, afterTick}
 use Rattle.steps.specs.Frames.{nothing}
 use Rattle.steps.specs.Calls.{Outcome}
 use Rattle.steps.specs.Steps as S
-use Rattle.steps.specs.Steps.{Act, start, stop, restart, setNotReady}
+use Rattle.steps.specs.Steps.{Act, start, stop, restart, setNotReady, setResult, clearResult, invoke}
 use Rattle.steps.proofs.CallLaws.{step-laws}
 use Rattle.steps.proofs.Dispatch.{cond-true, cond-false}
 use Rattle.steps.proofs.Keeps.{bcase}
@@ -45,6 +45,9 @@ lends room start = false
 lends room stop = isShort room
 lends room restart = false
 lends room (setNotReady b) = false
+lends room (setResult body) = false
+lends room clearResult = false
+lends room (invoke word bytes) = false
 
 pub act-in : (d : Lent) (t room : ℕ) (a : Act) (k : ℕ)
     → actIn d t room a k ≡ onEntry (λ e. S.actOf e t a) R.Entry d t (lends room a) k
@@ -53,6 +56,9 @@ act-in d t room start k = refl
 act-in d t room stop k = refl
 act-in d t room restart k = refl
 act-in d t room (setNotReady b) k = refl
+act-in d t room (setResult body) k = refl
+act-in d t room clearResult k = refl
+act-in d t room (invoke word bytes) k = refl
 
 -- there is a connection at k, within the slice, and its timer has not expired
 pub record Live (d : Lent) (t k : ℕ) : Type 0 where

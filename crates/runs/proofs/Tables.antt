@@ -13,7 +13,7 @@ use borrow.Author.Tests.{ltb-false, eqb-true}
 use Rattle.endpoint.specs.declared.Settings.{Settings}
 use Rattle.endpoint.specs.Endpoint.{Endpoint}
 use Rattle.endpoint.specs.Time.{Tidy, isExpired, endedOf, afterTick}
-use Rattle.steps.proofs.Keeps.{bcase, kept}
+use Rattle.steps.proofs.Keeps.{bcase, Kept, kept}
 use Rattle.records.specs.declared.Record.{Record}
 use Rattle.records.specs.Records.{endpointOf, recordOf, endedRecord}
 use Rattle.records.proofs.Records.{flag-back, records}
@@ -60,7 +60,7 @@ pub like-whole : {d d′ : Lent} → Like d d′ → Whole d′ → Whole d
 like-whole l w = ap₂ ltb (like-length l) (l .counts) ∙ w
 
 -- ---- the clock step
--- it keeps the settings, and the count of requests
+-- it keeps the settings, the words handed over and the count of requests
 pub tick-keeps : (e : Endpoint) (t : ℕ) → kept (afterTick e t) ≡ kept e
 tick-keeps e t = go (isExpired e t)
   where
@@ -81,7 +81,7 @@ sets-tick zero rs t = refl
 sets-tick (suc n) [] t = refl
 sets-tick (suc n) (r ∷ rs) t = ap₂ (λ (s : Settings) (l : List Settings). s ∷ l)
     (ap (λ (e : Endpoint). e .settings) (ticked-record r t)
-    ∙ ap (λ (s : Settings × ℕ). s .0) (tick-keeps (endpointOf r) t)) (sets-tick n rs t)
+    ∙ ap (λ (s : Kept). s .0) (tick-keeps (endpointOf r) t)) (sets-tick n rs t)
 
 pub like-tick : (d : Lent) (t : ℕ) → Like (clockStep t d) d
 unfolding clockStep

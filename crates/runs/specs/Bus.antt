@@ -11,7 +11,8 @@ use Rattle.frame.specs.Reading.{readingOf}
 use Rattle.frame.specs.Writing.{frameBytes}
 use Rattle.steps.specs.Frames.{Written, nothing, frame, value}
 
--- the bytes of the frame that a call wrote; a value is its user's
+-- the bytes of the frame that "an earlier send, stop or slave's deliver in the list wrote": what a show or a master's
+-- deliver hands to its user is no frame of the list, whatever bytes it is
 abbrev pub onBus : Written → List ℕ
 onBus nothing = []
 onBus (frame f body) = frameBytes f body

@@ -10,7 +10,7 @@ use Rattle.frame.specs.declared.Command.{Command}
 use Rattle.frame.specs.declared.Command.the-variants as K
 use Rattle.frame.specs.declared.Fields.{Fields}
 use Rattle.frame.specs.Control.{is}
-use Rattle.frame.specs.Writing.{isBodyLength, isWritable}
+use Rattle.frame.specs.Writing.{isWritable}
 use Rattle.frame.specs.RoundTrip.{Readable}
 use mathlib.Mathlib.Data.Bool.Basic.{and-elim-left as and-left}
 use Rattle.endpoint.specs.declared.State.the-variants.{Refresh}
@@ -21,15 +21,14 @@ use Rattle.endpoint.specs.Table.{isState, isSetup}
 use Rattle.endpoint.specs.Due.{requestDue, isPending, mayRequest}
 use Rattle.steps.specs.Frames.{dueData, setupData, sentFields}
 use Rattle.steps.specs.Calls.{Outcome, sendFaults, sendOf, stopFaults, stopOf}
-use Rattle.steps.specs.Deliveries.{requestFaults, repliedOf, deliverOf}
+use Rattle.steps.specs.Deliveries.{requestFaults, repliedOf, isResult, replyFaults, takeReply, deliverOf}
 use Rattle.steps.specs.Laws.{Carries}
 use Rattle.steps.proofs.Dispatch.{cond-true, cond-false, deliver-echo, deliver-refresh, deliver-request}
 use Rattle.steps.proofs.Dispatch.{deliver-reply}
 use Rattle.steps.proofs.Firsts.{is-done, first-done, sent-width, request-width, neither}
 use Rattle.steps.proofs.Keeps.{bcase}
-use Rattle.steps.proofs.Types.{baseline-fits}
 use Rattle.steps.proofs.Whole.{request-writable, refresh-writable, disconnect-writable, reply-writable}
-use Rattle.steps.proofs.Whole.{send-width-length, setup-length}
+use Rattle.steps.proofs.Whole.{send-width-length, baseline-fits}
 
 -- a send that is done, outside Refresh, is a request
 pub may-request : (e : Endpoint) (t n : ℕ) → isState (e .state) Refresh ≡ false → firstOf (sendFaults e t n) ≡ Done
@@ -90,17 +89,20 @@ module _ (e : Endpoint) (t : ℕ) where
       bcase (isDropped a || is (f .command) K.Disconnect) (λ h. rw h tt)
       (λ h.
       let n = neither (isDropped a) (is (f .command) K.Disconnect) h in
-      let l : isBodyLength (length body) ≡ true = rw (request-width e f body (n .0))
-      (setup-length (e .settings) (f .command)) in
       rw h (
         record {
           baseline = lit< tt;
           subconnection = tt;
-          formed = reply-writable e t f (isDone a) (isEnded a) (length body) k (n .1) l;
+          formed = reply-writable e t f (isDone a) (isEnded a) body k (n .1) (request-width e f body (n .0));
         },
         refl,
         sym m,
       ))
+
+  -- a result goes to the user
+  reply-carries : (f : Fields) (body : List ℕ) → Carries e (takeReply e t f body .writes)
+  reply-carries f body =
+      bcase (isDone (firstOf (replyFaults e f body)) && isResult f) (λ h. rw h tt) (λ h. rw h tt)
 
   pub deliver-carries : (f : Fields) (body : List ℕ) → Carries e (deliverOf e t f body .writes)
   deliver-carries f body =
@@ -111,4 +113,5 @@ module _ (e : Endpoint) (t : ℕ) where
       (λ k. bcase (e .settings .slave)
       (λ m. subst (λ (o : Outcome). Carries e (o .writes)) (sym (deliver-request e t f body h k m))
       (request-carries f body k m))
-      (λ m. subst (λ (o : Outcome). Carries e (o .writes)) (sym (deliver-reply e t f body h k m)) tt)))
+      (λ m. subst (λ (o : Outcome). Carries e (o .writes)) (sym (deliver-reply e t f body h k m))
+      (reply-carries f body))))

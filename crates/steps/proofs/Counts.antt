@@ -1,42 +1,49 @@
 -- The count of setup requests: begun anew by a start, one more with each that is written, and within its limit.
 use mathlib.Core.Path.{_≡_, refl, sym, ap, subst, _∙_}
-use mathlib.Core.Bool.{Bool, false, _&&_, _||_, not, cond, Bool·beq}
+use mathlib.Core.Bool.{Bool, true, false, _&&_, _||_, not, cond, Bool·beq}
 use mathlib.Core.List.{List}
 use mathlib.Core.Logic.{⊎-elim}
 use Prim.Native.Nat.{ℕ, _+_, _%_, _≤_}
 use native.Mathlib.Omega.{arith}
 use lib.Dec.{lit≤}
+use Rattle.frame.specs.declared.Command.{Command}
 use Rattle.frame.specs.declared.Command.the-variants as K
 use Rattle.frame.specs.declared.Fields.{Fields}
 use Rattle.frame.specs.Control.{is}
-use Rattle.endpoint.specs.declared.Settings.{Settings}
 use Rattle.endpoint.specs.declared.State.{State}
 use Rattle.endpoint.specs.declared.State.the-variants.{Close, Starting, EstablishPending, Establish, ParamVerify}
-use Rattle.endpoint.specs.declared.State.the-variants.{RefreshPending, Refresh, Terminate}
+use Rattle.endpoint.specs.declared.State.the-variants.{FuncRunning, RefreshPending, Refresh, Terminate}
 use Rattle.endpoint.specs.Endpoint.{Endpoint}
 use Rattle.endpoint.specs.Answers.{firstOf, isDone, isDropped}
-use Rattle.endpoint.specs.Table.{isState, requestOf}
-use Rattle.endpoint.specs.Due.{requestLimit}
-use Rattle.steps.specs.Calls.{Outcome, startOf, restartOf, setNotReadyOf, sendOf, stopFaults, stopOf}
-use Rattle.steps.specs.Deliveries.{requestFaults, repliedOf, deliverOf}
-use Rattle.steps.specs.Steps.{start, stop, restart, setNotReady, Call, act, send, deliver, show, stepOf}
+use Rattle.endpoint.specs.Table.{requestOf}
+use Rattle.endpoint.specs.Due.{isCommandDue, requestDue, requestLimit}
+use Rattle.steps.specs.Calls.{Outcome, sendOf, stopFaults, stopOf}
+use Rattle.steps.specs.Deliveries.{requestFaults, repliedOf, isResult, replyFaults, takeReply, deliverOf}
+use Rattle.steps.specs.Steps.{Act, begins, Call, act, send, deliver, show, actOf, stepOf}
 use Rattle.steps.specs.Laws.{requestsIn, isStart, RefreshSent, RequestSent}
 use Rattle.steps.proofs.Dispatch.{cond-true, cond-false, deliver-echo, deliver-refresh, deliver-request}
 use Rattle.steps.proofs.Dispatch.{deliver-reply}
 use Rattle.steps.proofs.Dones.{send-done, send-cases}
-use Rattle.steps.proofs.Keeps.{bcase, kept, restart-keeps, not-ready-keeps, stop-keeps, deliver-keeps}
-use Rattle.steps.proofs.Quiet.{restart-quiet, not-ready-quiet}
+use Rattle.steps.proofs.Keeps.{bcase, Kept, kept, stop-keeps, deliver-keeps}
+use Rattle.steps.proofs.Quiet.{by-act}
 
 -- what is due is neither S-Refresh nor S-Disconnect
-due : (s : State) → (is (requestOf s) K.Refresh ≡ false) × (is (requestOf s) K.Disconnect ≡ false)
-due Close = (refl, refl)
-due Starting = (refl, refl)
-due EstablishPending = (refl, refl)
-due Establish = (refl, refl)
-due ParamVerify = (refl, refl)
-due RefreshPending = (refl, refl)
-due Refresh = (refl, refl)
-due Terminate = (refl, refl)
+abbrev Countable : Command → Type 0
+Countable k = (is k K.Refresh ≡ false) × (is k K.Disconnect ≡ false)
+
+request : (s : State) → Countable (requestOf s)
+request Close = (refl, refl)
+request Starting = (refl, refl)
+request EstablishPending = (refl, refl)
+request Establish = (refl, refl)
+request ParamVerify = (refl, refl)
+request FuncRunning = (refl, refl)
+request RefreshPending = (refl, refl)
+request Refresh = (refl, refl)
+request Terminate = (refl, refl)
+
+due : (e : Endpoint) → Countable (requestDue e)
+due e = bcase (isCommandDue e) (λ h. rw h (refl, refl)) (λ h. rw h (request (e .state)))
 
 -- the count after a call that begins it anew or not, by what is written; and within its limit
 abbrev Counted : Endpoint → Bool → Outcome → Type 0
@@ -48,7 +55,7 @@ Counted e begins o =
 uncounted : (e : Endpoint) (o : Outcome) → kept (o .endpoint) ≡ kept e → requestsIn (o .writes) ≡ 0
     → Counted e false o
 uncounted e o k w =
-    let q : o .endpoint .setup .requests ≡ e .setup .requests = ap (λ (s : Settings × ℕ). s .1) k in
+    let q : o .endpoint .setup .requests ≡ e .setup .requests = ap (λ (s : Kept). s .2) k in
     (omega arith, λ h. omega (arith, h))
 
 -- S-Disconnect is not counted, and no reply is
@@ -65,17 +72,19 @@ deliver-none e t f body =
     let a = firstOf (requestFaults e f body) in
     let r : requestsIn (repliedOf e f body a) ≡ 0 =
     bcase (isDropped a || is (f .command) K.Disconnect) (λ h. rw h) (λ h. rw h) in
+    let s : requestsIn (takeReply e t f body .writes) ≡ 0 =
+    bcase (isDone (firstOf (replyFaults e f body)) && isResult f) (λ h. rw h) (λ h. rw h) in
     bcase (Bool·beq (f .application) (e .settings .slave)) (λ h. ap of (deliver-echo e t f body h))
     (λ h. bcase (is (f .command) K.Refresh) (λ k. ap of (deliver-refresh e t f body h k))
     (λ k. bcase (e .settings .slave) (λ m. ap of (deliver-request e t f body h k m) ∙ r)
-    (λ m. ap of (deliver-reply e t f body h k m))))
+    (λ m. ap of (deliver-reply e t f body h k m) ∙ s)))
 
 -- a request is counted: where it is done there were fewer than the limit
 send-counted : (e : Endpoint) (t : ℕ) (value : List ℕ) → Counted e false (sendOf e t value)
 send-counted e t value =
     let n = e .setup .requests in
     let none : n ≡ n + 0 = omega arith in
-    let q = due (e .state) in
+    let q = due e in
     send-cases e t (Counted e false) value
     (λ h. ⊎-elim (λ (d : RefreshSent e t value). subst (Counted e false) (sym (d .comes)) (none, λ l. l))
     (λ (d : RequestSent e t value).
@@ -86,18 +95,25 @@ send-counted e t value =
     (send-done e t value h))
     (λ a. (none, λ l. l)) (λ a. (none, λ l. l))
 
-start-counted : (e : Endpoint) (t : ℕ) → Counted e (isDone (startOf e t .answer)) (startOf e t)
-start-counted e t =
-    bcase (not (e .settings .slave) && isState (e .state) Close) (λ h. rw h (refl, λ l. lit≤ tt))
-    (λ h. rw h (omega arith, λ l. l))
+-- a quiet act begins it anew, or keeps it
+act-counted : (e : Endpoint) (t : ℕ) (a : Act) → Counted e (begins a && isDone (actOf e t a .answer)) (actOf e t a)
+act-counted e t =
+    by-act e t (λ a. Counted e (begins a && isDone (actOf e t a .answer)) (actOf e t a))
+    (uncounted e (stopOf e t) (stop-keeps e t) (stop-none e t))
+    (λ a q.
+    let n = e .setup .requests in
+    let begun = begins a && isDone (actOf e t a .answer) in
+    let none : requestsIn (actOf e t a .writes) ≡ 0 = ap requestsIn (q .writes) in
+    let same : n ≡ n + requestsIn (actOf e t a .writes) = omega arith in
+    (q .requests ∙ ap (cond begun 0) same, λ l. rw (q .requests) (within begun n l)))
+  where
+    within : (b : Bool) (n : ℕ) → n ≤ requestLimit → cond b 0 n ≤ requestLimit
+    within true n l = lit≤ tt
+    within false n l = l
 
 counted : (e : Endpoint) (t : ℕ) (call : Call)
     → Counted e (isStart call && isDone (stepOf e t call .answer)) (stepOf e t call)
-counted e t (act start) = start-counted e t
-counted e t (act stop) = uncounted e (stopOf e t) (stop-keeps e t) (stop-none e t)
-counted e t (act restart) = uncounted e (restartOf e) (restart-keeps e t) (ap requestsIn (restart-quiet e))
-counted e t (act (setNotReady b)) =
-    uncounted e (setNotReadyOf e b) (not-ready-keeps e t b) (ap requestsIn (not-ready-quiet e b))
+counted e t (act a) = act-counted e t a
 counted e t (send value) = send-counted e t value
 counted e t (deliver f body) = uncounted e (deliverOf e t f body) (deliver-keeps e t f body) (deliver-none e t f body)
 counted e t show = (omega arith, λ l. l)

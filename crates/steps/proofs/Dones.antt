@@ -1,10 +1,9 @@
 -- What done tells of each call, and what dropped leaves.
 use mathlib.Core.Path.{_≡_, refl, sym, ap, _∙_}
-use mathlib.Core.Bool.{Bool, true, false, _&&_, not, Bool·beq, true≢false, false≢true}
+use mathlib.Core.Bool.{Bool, true, false, _&&_, _||_, not, Bool·beq, true≢false, false≢true}
 use mathlib.Core.List.{List}
 use mathlib.Core.Logic.{_⊎_, inl, inr}
 use Prim.Native.Nat.{ℕ, _<_}
-use native.Mathlib.Omega.{arith}
 use lib.Dec.{eqb}
 use lib.ListN.{length}
 use borrow.Author.Tests.{leb-false, eqb-true, not-true, not-false}
@@ -19,28 +18,26 @@ use Rattle.endpoint.specs.declared.Pending.{Pending}
 use Rattle.endpoint.specs.declared.Pending.the-variants.{Nothing, Asked}
 use Rattle.endpoint.specs.Endpoint.{Endpoint}
 use Rattle.endpoint.specs.declared.Reason.{Reason}
-use Rattle.endpoint.specs.declared.Reason.the-variants as R
 use Rattle.endpoint.specs.declared.Answer.{Answer}
 use Rattle.endpoint.specs.declared.Answer.the-variants.{Done, Dropped, Ended}
 use Rattle.endpoint.specs.Answers.{firstOf, isDone, isDropped}
 use Rattle.endpoint.specs.Table.{isState, isSetup}
-use Rattle.endpoint.specs.Due.{requestDue, isPending, answersTo, mayRequest, requestLimit, isExhausted}
+use Rattle.endpoint.specs.Due.{requestDue, isPending, answersTo, mayRequest, requestLimit, isExhausted, mayQueue}
 use Rattle.endpoint.specs.Time.{isAbove, endedOf, timeOf}
 use Rattle.steps.specs.Frames.{nothing, setupData, dueData, showWidth}
 use Rattle.steps.specs.Calls.{Outcome, outcome, dropped, refused, startOf, restartOf, setNotReadyOf}
+use Rattle.steps.specs.Calls.{handFaults, setResultOf, clearResultOf, commandData, invokeOf}
 use Rattle.steps.specs.Calls.{sendFaults, sendOf, stopFaults, stopOf}
-use Rattle.steps.specs.Deliveries.{refreshFaults, requestFaults, replyFaults, takeRefresh}
+use Rattle.steps.specs.Deliveries.{refreshFaults, isWidth, requestFaults, isResult, replyFaults, takeRefresh}
 use Rattle.steps.specs.Deliveries.{takeRequest, takeReply, deliverOf}
-use Rattle.steps.specs.Laws.{StartDone, RestartDone, NotReadySet, RefreshSent, RequestSent, StopDone}
+use Rattle.steps.specs.Laws.{StartDone, RestartDone, NotReadySet, ResultSet, ResultCleared, CommandQueued}
+use Rattle.steps.specs.Laws.{RefreshSent, RequestSent, StopDone}
 use Rattle.steps.specs.Laws.{RefreshTaken, RequestTaken, DisconnectTaken, ReplyTaken}
 use Rattle.steps.proofs.Carried.{may-request, master-requests}
-use Rattle.steps.proofs.Dispatch.{cond-false, deliver-echo, deliver-refresh, deliver-request, deliver-reply}
+use Rattle.steps.proofs.Dispatch.{cond-true, deliver-echo, deliver-refresh, deliver-request, deliver-reply}
 use Rattle.steps.proofs.Firsts.{not-dropped, not-soon, is-done, first-done, sent-width, neither}
 use Rattle.steps.proofs.Keeps.{bcase}
-
--- ---- answers apart
-pub not-done : (r : Reason) → Dropped r ≡ Done → ⊥
-not-done r h = let z : _≡_ {A = ℕ} 0 1 = cc in omega arith
+use Rattle.steps.proofs.Quiet.{not-done, plain-done}
 
 -- a dropped answer is not done
 dropped-not-done : (a : Answer) → isDropped a ≡ true → a ≡ Done → ⊥
@@ -61,36 +58,44 @@ module _ (e : Endpoint) (t : ℕ) where
   start-done d =
       let m = not (e .settings .slave) in
       let z = isState (e .state) Close in
-      bcase (m && z)
-      (λ h. record { master = not-true (e .settings .slave) (and-left m z h); closed = and-right m z h; comes = rw h })
-      (λ h. absurd (not-done R.Turn (rw h at d)))
+      let h = plain-done (m && z) _ e _ (λ n. refl) d in
+      record {
+        master = not-true (e .settings .slave) (and-left m z h);
+        closed = and-right m z h;
+        comes = cond-true _ _ _ h;
+      }
 
   pub restart-done : restartOf e .answer ≡ Done → RestartDone e
   restart-done d =
-      bcase (isState (e .state) Terminate) (λ h. record { terminated = h; comes = rw h })
-      (λ h. absurd (not-done R.Turn (rw h at d)))
+      let h = plain-done (isState (e .state) Terminate) _ e _ (λ n. refl) d in
+      record { terminated = h; comes = cond-true _ _ _ h }
 
   pub not-ready-set : (b : Bool) → setNotReadyOf e b .answer ≡ Done → NotReadySet e b
   not-ready-set b d =
-      bcase (e .settings .slave) (λ h. record { slave = h; comes = rw h }) (λ h. absurd (not-done R.Turn (rw h at d)))
+      let h = plain-done (e .settings .slave) _ e _ (λ n. refl) d in
+      record { slave = h; comes = cond-true _ _ _ h }
 
-  pub start-dropped : (r : Reason) → startOf e t .answer ≡ Dropped r → startOf e t ≡ dropped e (Dropped r)
-  start-dropped r d =
-      bcase (not (e .settings .slave) && isState (e .state) Close) (λ h. absurd (not-done r (sym (rw h at d))))
-      (λ h. let p : Dropped R.Turn ≡ Dropped r = rw h at d in rw h (ap (dropped e) p))
+  -- words are handed over in turn
+  hand-turn : (turn : Bool) (n : ℕ) → isDone (firstOf (handFaults turn n)) ≡ true → turn ≡ true
+  hand-turn turn n h =
+      not-false turn (first-done (handFaults turn n) (is-done (firstOf (handFaults turn n)) h) .turn)
 
-  pub restart-dropped : (r : Reason) → restartOf e .answer ≡ Dropped r → restartOf e ≡ dropped e (Dropped r)
-  restart-dropped r d =
-      bcase (isState (e .state) Terminate) (λ h. absurd (not-done r (sym (rw h at d))))
-      (λ h. let p : Dropped R.Turn ≡ Dropped r = rw h at d in rw h (ap (dropped e) p))
+  pub result-set : (body : List ℕ) → setResultOf e body .answer ≡ Done → ResultSet e body
+  result-set body d =
+      let h = plain-done (isDone (firstOf (handFaults (e .settings .slave) (length body)))) _ e _ (λ n. n) d in
+      record { slave = hand-turn (e .settings .slave) (length body) h; comes = cond-true _ _ _ h }
 
-  pub not-ready-dropped : (b : Bool) (r : Reason) → setNotReadyOf e b .answer ≡ Dropped r
-      → setNotReadyOf e b ≡ dropped e (Dropped r)
-  not-ready-dropped b r d =
-      bcase (e .settings .slave) (λ h. absurd (not-done r (sym (rw h at d))))
-      (λ h.
-      let q : setNotReadyOf e b ≡ dropped e (Dropped R.Turn) = cond-false (e .settings .slave) _ _ h in
-      q ∙ ap (dropped e) (sym (ap (λ (o : Outcome). o .answer) q) ∙ d))
+  pub result-cleared : clearResultOf e .answer ≡ Done → ResultCleared e
+  result-cleared d =
+      let h = plain-done (e .settings .slave) _ e _ (λ n. refl) d in
+      record { slave = h; comes = cond-true _ _ _ h }
+
+  pub command-queued : (word : ℕ) (bytes : List ℕ) → invokeOf e word bytes .answer ≡ Done
+      → CommandQueued e word bytes
+  command-queued word bytes d =
+      let l = length (commandData word bytes) in
+      let h = plain-done (isDone (firstOf (handFaults (mayQueue e) l))) _ e _ (λ n. n) d in
+      record { may = hand-turn (mayQueue e) l h; comes = cond-true _ _ _ h }
 
   -- ---- send
   above-sent : (n : ℕ) → firstOf (sendFaults e t n) ≡ Done → isAbove (e .timestamps .sent) (timeOf e t) ≡ true
@@ -192,11 +197,12 @@ module _ (e : Endpoint) (t : ℕ) where
   request-done f body k d =
       let n = first-done (requestFaults e f body) d in
       let s = same body (setupData (e .settings) (f .command)) in
-      let u : not s ≡ false = rw k at (n .unequal) in
+      let u : not (is (f .command) K.InvokeFunc || s) ≡ false = rw k at (n .unequal) in
       record {
         turn = n .turn;
         above = not-false (isAbove (e .timestamps .accepted) (f .timestamp)) (n .repeat);
-        contents = same-eq body (setupData (e .settings) (f .command)) (not-false s u);
+        width = not-false (isWidth (e .settings) (f .command) (length body)) (n .width);
+        contents = λ i. same-eq body (setupData (e .settings) (f .command)) (not-false s (rw i at u));
         comes = rw (d, k);
       }
 
@@ -220,7 +226,7 @@ module _ (e : Endpoint) (t : ℕ) where
       let y = f .ack && (isPending (e .setup .pending) && is (f .command) due) in
       let z = isPending (e .setup .pending) && is (f .command) due in
       let turn : (x && y) ≡ true = not-false (x && y) (n .turn) in
-      let u = neither (f .error) (not s) (n .unequal) in
+      let u = neither (f .error) (not (isResult f || s)) (n .unequal) in
       record {
         setup = and-left x y turn;
         pending = answers-is (e .setup .pending) (f .timestamp)
@@ -228,7 +234,7 @@ module _ (e : Endpoint) (t : ℕ) where
         command = and-right (isPending (e .setup .pending)) (is (f .command) due)
             (and-right (f .ack) z (and-right x y turn));
         sound = u .0;
-        contents = same-eq body (dueData e) (not-false s (u .1));
+        contents = λ i. same-eq body (dueData e) (not-false s (rw i at (u .1)));
         comes = rw d;
       }
 

@@ -4,10 +4,15 @@ use mathlib.Core.Bool.{Bool, true, false, _&&_, _||_, not, cond, true≢false}
 use mathlib.Core.List.{List}
 use Prim.Native.Nat.{ℕ}
 use lib.ListN.{length}
-use Rattle.frame.specs.declared.Fields.{Fields}
 use native.Mathlib.Omega.{arith}
 use lib.Dec.{eqb}
 use borrow.Author.Tests.{eqb-true, not-false}
+use Rattle.frame.specs.declared.Command.{Command}
+use Rattle.frame.specs.declared.Command.the-variants as K
+use Rattle.frame.specs.declared.Fields.{Fields}
+use Rattle.frame.specs.Control.{is}
+use Rattle.frame.specs.Writing.{isBodyLength}
+use Rattle.endpoint.specs.declared.Settings.{Settings}
 use Rattle.endpoint.specs.declared.State.the-variants.{Refresh}
 use Rattle.endpoint.specs.Endpoint.{Endpoint}
 use Rattle.endpoint.specs.declared.Reason.{Reason}
@@ -19,7 +24,9 @@ use Rattle.endpoint.specs.Answers.{firstOf, isDone, isDropped}
 use Rattle.endpoint.specs.Table.{isState}
 use Rattle.steps.specs.Frames.{sendWidth, setupData}
 use Rattle.steps.specs.Calls.{sendFaults}
-use Rattle.steps.specs.Deliveries.{requestFaults}
+use Rattle.steps.specs.Deliveries.{isWidth, requestFaults}
+use Rattle.steps.proofs.Keeps.{bcase}
+use Rattle.steps.proofs.Whole.{setup-length}
 
 -- an answer that is not dropped is past each test that drops
 past : (b : Bool) (r : Reason) (x : Answer) → isDropped (cond b (Dropped r) x) ≡ false → (b ≡ false)
@@ -107,12 +114,21 @@ sent-width e t n r h =
     let v : not (eqb n (sendWidth (e .settings))) ≡ false = rw r at w in
     eqb-true n (sendWidth (e .settings)) (not-false (eqb n (sendWidth (e .settings))) v)
 
--- a request that is not dropped has data of the right length
+-- the right length of a request's S-Data is one that S-Data can have
+width-length : (s : Settings) (k : Command) (n : ℕ) → isWidth s k n ≡ true → isBodyLength n ≡ true
+width-length s k n w =
+    bcase (is k K.InvokeFunc) (λ i. rw i at w)
+    (λ i.
+    let q : eqb n (length (setupData s k)) ≡ true = rw i at w in
+    rw (eqb-true n (length (setupData s k)) q) (setup-length s k))
+
+-- a request that is not dropped has it
 pub request-width : (e : Endpoint) (f : Fields) (body : List ℕ) → isDropped (firstOf (requestFaults e f body)) ≡ false
-    → length body ≡ length (setupData (e .settings) (f .command))
+    → isBodyLength (length body) ≡ true
 request-width e f body h =
-    let n = length (setupData (e .settings) (f .command)) in
-    eqb-true (length body) n (not-false (eqb (length body) n) (not-dropped (requestFaults e f body) refl h .width))
+    let w = isWidth (e .settings) (f .command) (length body) in
+    width-length (e .settings) (f .command) (length body)
+    (not-false w (not-dropped (requestFaults e f body) refl h .width))
 
 -- neither of two
 pub neither : (a b : Bool) → (a || b) ≡ false → (a ≡ false) × (b ≡ false)

@@ -3,6 +3,7 @@ pub mod Copies
 pub mod Data
 pub mod Dispatch
 pub mod Firsts
+pub mod Handed
 pub mod Left
 pub mod Outcomes
 pub mod Shows
@@ -11,7 +12,7 @@ pub mod Keeps
 pub mod Quiet
 pub mod Carried
 pub mod Dones
-pub mod Types
 pub mod Counts
 pub mod CallLaws
 pub mod Values
+pub mod WordsKept

@@ -12,11 +12,12 @@ use Rattle.endpoint.specs.declared.Answer.{Answer}
 use Rattle.endpoint.specs.declared.Answer.the-variants.{Dropped}
 use Rattle.steps.specs.declared.Stepped.{Stepped}
 use Rattle.steps.specs.Frames.{nothing, frame}
+use Rattle.steps.specs.Frames as W
 use Rattle.steps.specs.Calls.{Outcome, outcome}
 use Rattle.steps.specs.Says.{withRoom, steppedOf, StepSays}
 use Rattle.steps.proofs.Whole.{WholeSays}
 
--- ---- an outcome that writes nothing, and one that writes a frame
+-- ---- an outcome that writes nothing, one that writes a frame, and one that writes a value
 module _ (out : List ℕ) (o : Outcome) (a : Answer) (x : Endpoint) where
   pub quiet-step : {r : Stepped} → o ≡ outcome a x nothing → r ≡ steppedOf a (coreOf x) 0 → StepSays o out out r
   unfolding over
@@ -26,6 +27,11 @@ module _ (out : List ℕ) (o : Outcome) (a : Answer) (x : Endpoint) where
       → WholeSays f body out out′ n → r ≡ steppedOf a (coreOf x) n → StepSays o out out′ r
   loud-step f body q w s =
       record { answered = rw (s, q); left = rw (s, q); counted = rw (s, q) (w .counted); output = rw q (w .output) }
+
+  -- bytes for the user
+  pub value-step : (bytes : List ℕ) {out′ : List ℕ} {n : ℕ} {r : Stepped} → o ≡ outcome a x (W.value bytes)
+      → n ≡ length bytes → out′ ≡ over bytes out → r ≡ steppedOf a (coreOf x) n → StepSays o out out′ r
+  value-step bytes q l w s = record { answered = rw (s, q); left = rw (s, q); counted = rw (s, q) l; output = rw q w }
 
 -- ---- the same where the output was found long enough, and where it was not
 module _ (out : List ℕ) (e : Endpoint) (o : Outcome) where

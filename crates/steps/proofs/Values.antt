@@ -2,30 +2,33 @@
 use mathlib.Core.Path.{_≡_, refl, sym, ap, _∙_}
 use mathlib.Core.Bool.{Bool, true, false, _&&_, not, cond, Bool·beq, true≢false}
 use mathlib.Core.List.{List}
-use Prim.Native.Nat.{ℕ}
+use Prim.Native.Nat.{ℕ, _/_}
 use lib.ListN.{length}
 use Rattle.frame.specs.declared.Command.the-variants as K
 use Rattle.frame.specs.declared.Fields.{Fields}
 use Rattle.frame.specs.Control.{is}
 use Rattle.endpoint.specs.declared.State.the-variants.{Close, Refresh, Terminate}
-use Rattle.endpoint.specs.Endpoint.{Endpoint}
+use Rattle.endpoint.specs.Endpoint.{Endpoint, wordsOf}
 use Rattle.endpoint.specs.declared.Reason.{Reason}
 use Rattle.endpoint.specs.declared.Reason.the-variants as R
 use Rattle.endpoint.specs.declared.Answer.{Answer}
 use Rattle.endpoint.specs.declared.Answer.the-variants.{Done, Dropped, Ended}
 use Rattle.endpoint.specs.Answers.{firstOf, isDone, isDropped, leftBy}
 use Rattle.endpoint.specs.Table.{isState}
-use Rattle.endpoint.specs.Due.{isBusy}
+use Rattle.endpoint.specs.Due.{isCommandDue, isHeldBack, mayQueue}
 use Rattle.endpoint.specs.Time.{noValue, Tidy, endedOf, afterTick, isExpired}
-use Rattle.endpoint.specs.Updates.{holding, withNotReady}
-use Rattle.transitions.specs.ByCall.{startedOf, restartedOf, requestedOf, refreshSentOf, stoppedOf}
+use Rattle.endpoint.specs.Updates.{holding, withWords, withNotReady}
+use Rattle.transitions.specs.ByCall.{startedOf, restartedOf, requestedOf, refreshSentOf, stoppedOf, queuedOf}
 use Rattle.transitions.specs.ByFrame.{refreshedOf, deferredOf, advancedOf, takenOf, endedBy, confirmedOf, dueAgainOf}
+use Rattle.transitions.specs.ByFrame.{performedOf, heardOf}
 use Rattle.steps.specs.Frames.{Written, nothing, frame, dueData, requestFields, refreshFields}
-use Rattle.steps.specs.Calls.{Outcome, outcome, sendFaults, sendOf, stopFaults, disconnectOf}
-use Rattle.steps.specs.Deliveries.{paddedOf, refreshFaults, requestFaults, replyFaults, takeRefresh, takeRequest}
+use Rattle.steps.specs.Frames.{paddedOf}
+use Rattle.steps.specs.Calls.{Outcome, outcome, handFaults, commandData, sendFaults, sendOf, stopFaults}
+use Rattle.steps.specs.Calls.{disconnectOf}
+use Rattle.steps.specs.Deliveries.{refreshFaults, requestFaults, replyFaults, takeRefresh, takeRequest}
 use Rattle.steps.specs.Deliveries.{takeReply, deliverOf}
-use Rattle.steps.specs.Steps.{Act, start, stop, restart, setNotReady, Call, act, send, deliver, show, actOf}
-use Rattle.steps.specs.Steps.{stepOf}
+use Rattle.steps.specs.Steps.{Act, start, stop, restart, setNotReady, setResult, clearResult, invoke, actOf}
+use Rattle.steps.specs.Steps.{Call, act, send, deliver, show, stepOf}
 use Rattle.steps.specs.Values.{withBytes, isShow, accepts, bodyIn, bytesAfter, ValueLeft, ValueLaws}
 use Rattle.steps.proofs.Dispatch.{cond-false}
 use Rattle.steps.proofs.Keeps.{bcase}
@@ -62,10 +65,16 @@ module _ (e : Endpoint) (b : List ℕ) (h : Tidy (withBytes b e)) where
   filled x w y =
       record { answered = refl; writes = refl; left = rw y; taken = λ p n. absurd (true≢false (sym y ∙ n)) }
 
-  -- ---- which of its ends a call comes to: by a test, and by its answer
+  -- ---- which of its ends a call comes to: by a test, also of what it leaves, and by its answer
   either : {k : Call} {x x′ y y′ : Outcome} (c : Bool) → Left k x x′ → Left k y y′ → Left k (cond c x y) (cond c x′ y′)
   either true p q = p
   either false p q = q
+
+  leaves : {k : Call} {x x′ y y′ : Endpoint} {w : Written} (c : Bool) → Left k (outcome Done x w) (outcome Done x′ w)
+      → Left k (outcome Done y w) (outcome Done y′ w)
+      → Left k (outcome Done (cond c x y) w) (outcome Done (cond c x′ y′) w)
+  leaves true p q = p
+  leaves false p q = q
 
   by-answer : {k : Call} (a : Answer) (x : Endpoint) {y y′ : Endpoint} {w : Written}
       → Left k (outcome Done y w) (outcome Done y′ w)
@@ -89,6 +98,18 @@ module _ (e : Endpoint) (b : List ℕ) (h : Tidy (withBytes b e)) where
     act-left (setNotReady r) =
         either (e .settings .slave) (kept Done (withNotReady r e) nothing refl refl)
         (kept (Dropped R.Turn) e nothing refl refl)
+    act-left (setResult body) =
+        let a = firstOf (handFaults (e .settings .slave) (length body)) in
+        either (isDone a) (kept Done (withWords (wordsOf (length body / 4) (paddedOf body)) e) nothing refl refl)
+        (kept a e nothing refl refl)
+    act-left clearResult =
+        either (e .settings .slave) (kept Done (withWords (wordsOf 0 (e .words .bytes)) e) nothing refl refl)
+        (kept (Dropped R.Turn) e nothing refl refl)
+    act-left (invoke word bytes) =
+        let handed = commandData word bytes in
+        let a = firstOf (handFaults (mayQueue e) (length handed)) in
+        either (isDone a) (kept Done (queuedOf e (wordsOf (length handed / 4) (paddedOf handed))) nothing refl refl)
+        (kept a e nothing refl refl)
 
     send-left : (value : List ℕ) → Left (send value) (sendOf e t value) (sendOf (withBytes b e) t value)
     send-left value =
@@ -110,18 +131,21 @@ module _ (e : Endpoint) (b : List ℕ) (h : Tidy (withBytes b e)) where
         taken-left : (w : Written)
             → Left (deliver f body) (outcome Done (takenOf e t f) w) (outcome Done (takenOf (withBytes b e) t f) w)
         taken-left w =
-            bcase (is (f .command) K.Disconnect) (λ d. rw d (wiped Done (endedBy e (f .timestamp)) w))
-            (λ d. rw d (bcase (isBusy e (f .command)) (λ y. rw y (kept Done (deferredOf e t f) w n refl))
-            (λ y. rw y (wiped Done (advancedOf e t f) w))))
+            leaves (is (f .command) K.Disconnect) (wiped Done (endedBy e (f .timestamp)) w)
+            (leaves (isHeldBack e (f .command)) (kept Done (deferredOf e t f) w n refl)
+            (wiped Done (advancedOf e t f) w))
+
+        heard-left : (w : Written)
+            → Left (deliver f body) (outcome Done (heardOf e t f) w) (outcome Done (heardOf (withBytes b e) t f) w)
+        heard-left w =
+            leaves (f .busy) (kept Done (dueAgainOf e t) w n refl)
+            (leaves (isCommandDue e) (kept Done (performedOf e t) w n refl) (wiped Done (confirmedOf e t) w))
 
         request-left : Left (deliver f body) (takeRequest e t f body) (takeRequest (withBytes b e) t f body)
         request-left = by-answer (firstOf (requestFaults e f body)) (endedBy e (f .timestamp)) (taken-left _)
 
         reply-left : Left (deliver f body) (takeReply e t f body) (takeReply (withBytes b e) t f body)
-        reply-left =
-            by-answer (firstOf (replyFaults e f body)) (endedOf e)
-            (bcase (f .busy) (λ y. rw y (kept Done (dueAgainOf e t) nothing n refl))
-            (λ y. rw y (wiped Done (confirmedOf e t) nothing)))
+        reply-left = by-answer (firstOf (replyFaults e f body)) (endedOf e) (heard-left _)
 
       deliver-left : Left (deliver f body) (deliverOf e t f body) (deliverOf (withBytes b e) t f body)
       deliver-left =

@@ -1,17 +1,18 @@
 -- A frame that can be written is written whole to an output of 248 bytes or more; and every frame that an endpoint
 -- writes can be.
-use mathlib.Core.Path.{_≡_, refl}
+use mathlib.Core.Path.{_≡_, refl, _∙_}
 use mathlib.Core.Bool.{Bool, true, false, _&&_, _||_, not, cond, or-true}
-use mathlib.Core.List.{List}
+use mathlib.Core.List.{List, _++_}
 use Prim.Native.Nat.{ℕ, _+_, _-_, _*_, _%_, _^_, _≤_, _<_}
 use native.Mathlib.Omega.{arith}
-use lib.Dec.{eqb, leb}
-use lib.ListN.{length}
-use borrow.Author.Tests.{le-leb, leb-true, lt-ltb, eq-eqb}
+use lib.Dec.{eqb, leb, lit<}
+use lib.ListN.{length, take, drop, replicate, length-append, length-drop}
+use lib.Seq.{length-take-le, take-all}
+use borrow.Author.Tests.{le-leb, leb-true, leb-false, lt-ltb, eq-eqb}
 use Rattle.frame.specs.declared.Command.{Command}
 use Rattle.frame.specs.declared.Command.the-variants as K
 use Rattle.frame.specs.declared.Fields.{Fields}
-use Rattle.frame.specs.Control.{is, mayBeBusy, hasForm}
+use Rattle.frame.specs.Control.{is, waitsForStation, mayBeBusy, hasForm}
 use Rattle.frame.specs.Writing.{frameBytes, isBodyLength, isWritable, writtenOf, headOf, HeadSays}
 use mathlib.Mathlib.Data.Bool.Basic.{and-elim-left as and-left, and-elim-right as and-right, and-intro as both}
 use Rattle.frame.proofs.Lengths.{can-be-written}
@@ -20,13 +21,16 @@ use Rattle.words.specs.Output.{over}
 use Rattle.endpoint.specs.declared.Settings.{Settings}
 use Rattle.endpoint.specs.declared.State.{State}
 use Rattle.endpoint.specs.declared.State.the-variants.{Close, Starting, EstablishPending, Establish, ParamVerify}
-use Rattle.endpoint.specs.declared.State.the-variants.{RefreshPending, Refresh, Terminate}
-use Rattle.endpoint.specs.Endpoint.{Endpoint}
+use Rattle.endpoint.specs.declared.State.the-variants.{FuncRunning, RefreshPending, Refresh, Terminate}
+use Rattle.endpoint.specs.Endpoint.{Endpoint, Words}
 use Rattle.endpoint.specs.Table.{requestOf}
-use Rattle.endpoint.specs.Due.{requestDue, isBusy}
+use Rattle.endpoint.specs.Due.{isCommandDue, requestDue}
 use Rattle.endpoint.specs.Time.{span, timeOf}
-use Rattle.steps.specs.Frames.{setupData, dueData, widthOf, sendWidth, showWidth, sentFields, ackFields}
-use Rattle.steps.specs.Frames.{baselineOf, requestFields, refreshFields, disconnectFields, replyFields}
+use Rattle.steps.specs.Frames.{setupData, isCount, widthOf, paddedOf, handedOver, dueData, sendWidth, showWidth}
+use Rattle.steps.specs.Frames.{sentFields}
+use Rattle.steps.specs.Frames.{ackFields, baselineOf, requestFields, refreshFields, disconnectFields, replyFields}
+use Rattle.steps.specs.Frames.{hasResult, isPerformed, isBusy, replyData}
+use Rattle.steps.proofs.Keeps.{bcase}
 
 -- the frame of the fields, all of it, and the rest of the output stays
 pub record WholeSays (f : Fields) (body out out′ : List ℕ) (count : ℕ) : Type 0 where
@@ -50,21 +54,69 @@ unfolding setupData
 setup-length s K.Connect = refl
 setup-length s K.ConfirmNetwork = refl
 setup-length s K.VerifyStation = refl
+setup-length s K.InvokeFunc = refl
 setup-length s K.RefreshReady = refl
 setup-length s K.RefreshGo = refl
 setup-length s K.Refresh = refl
 setup-length s K.Disconnect = refl
 
 pub value-length : (words : ℕ) → isBodyLength (widthOf words) ≡ true
-value-length words = by-test (leb 1 words && leb words 25) refl
+value-length words = by-test (isCount words) refl
   where
-    by-test : (b : Bool) → (leb 1 words && leb words 25) ≡ b → isBodyLength (4 * cond b words 1) ≡ true
+    by-test : (b : Bool) → isCount words ≡ b → isBodyLength (4 * cond b words 1) ≡ true
     by-test true h =
         let l = leb-true 1 words (and-left (leb 1 words) (leb words 25) h) in
         let m = leb-true words 25 (and-right (leb 1 words) (leb words 25) h) in
         both (le-leb 4 (4 * words) (omega arith))
         (both (le-leb (4 * words) 100 (omega arith)) (eq-eqb (4 * words % 4) 0 (omega arith)))
     by-test false h = refl
+
+pub width-le : (words : ℕ) → widthOf words ≤ 100
+width-le words =
+    leb-true (widthOf words) 100
+    (and-left (leb (widthOf words) 100) _ (and-right (leb 4 (widthOf words)) _ (value-length words)))
+
+-- an array of 100
+pub padded-length : (b : List ℕ) → length (paddedOf b) ≡ 100
+padded-length b =
+    length-append (take 100 b) (drop (length b) (replicate {A = ℕ} 100 0)) ∙ by-test (leb 100 (length b)) refl
+  where
+    by-test : (t : Bool) → leb 100 (length b) ≡ t
+        → length (take 100 b) + length (drop (length b) (replicate {A = ℕ} 100 0)) ≡ 100
+    by-test true h =
+        let l = leb-true 100 (length b) h in
+        rw (length-take-le 100 b l, length-drop) (omega (arith, l))
+    by-test false h =
+        let l = leb-false 100 (length b) h in
+        rw (take-all 100 b (omega (arith, l)), length-drop) (omega (arith, l))
+
+-- the words that its user handed over: as many as are counted
+pub handed-length : (w : Words) → length (handedOver w) ≡ widthOf (w .count)
+unfolding handedOver
+handed-length w =
+    length-take-le (widthOf (w .count)) (paddedOf (w .bytes))
+    (rw (padded-length (w .bytes)) (width-le (w .count)))
+
+-- so many bytes of the array that holds them
+module _ (w : Words) {array : List ℕ} {n : ℕ} (a : array ≡ paddedOf (w .bytes)) (k : n ≡ widthOf (w .count)) where
+  pub within-array : n ≤ length array
+  within-array = rw (a, k, padded-length (w .bytes)) (width-le (w .count))
+
+  pub front-handed : take n array ≡ handedOver w
+  unfolding handedOver
+  front-handed = rw (a, k)
+
+pub due-length : (e : Endpoint) → isBodyLength (length (dueData e)) ≡ true
+due-length e =
+    bcase (isCommandDue e)
+    (λ h. rw (h, handed-length (e .words)) (value-length (e .words .count)))
+    (λ h. rw h (setup-length (e .settings) (requestOf (e .state))))
+
+pub reply-length : (e : Endpoint) (k : Command) (body : List ℕ) → isBodyLength (length body) ≡ true
+    → isBodyLength (length (replyData e k body)) ≡ true
+reply-length e k body l =
+    bcase (isPerformed e k (length body))
+    (λ h. rw (h, handed-length (e .words)) (value-length (e .words .count))) (λ h. rw h l)
 
 -- ---- the form of each frame
 request-form : (s : State) (connection timestamp t measured : ℕ)
@@ -75,9 +127,18 @@ request-form Starting connection timestamp t measured = refl
 request-form EstablishPending connection timestamp t measured = refl
 request-form Establish connection timestamp t measured = refl
 request-form ParamVerify connection timestamp t measured = refl
+request-form FuncRunning connection timestamp t measured = refl
 request-form RefreshPending connection timestamp t measured = rw (or-true (eqb ((t - measured) % 65536) 0))
 request-form Refresh connection timestamp t measured = refl
 request-form Terminate connection timestamp t measured = refl
+
+-- OBL has 16 bits
+pub baseline-fits : (k : Command) (t measured : ℕ) → baselineOf k t measured < 65536
+baseline-fits k t measured = go (is k K.RefreshGo)
+  where
+    go : (b : Bool) → cond b ((t - measured) % 65536) 0 < 65536
+    go true = omega arith
+    go false = lit< tt
 
 -- a reply: to any command but S-Refresh and S-Disconnect
 reply-form : (k : Command) (busy error : Bool) (connection timestamp : ℕ) → is k K.Refresh ≡ false
@@ -86,12 +147,23 @@ reply-form : (k : Command) (busy error : Bool) (connection timestamp : ℕ) → 
 unfolding hasForm
 reply-form k busy error connection timestamp r d b = rw (r, d, b, or-true (not error))
 
--- Busy in the replies that may have it: a done, n not ready, m may be busy
-busy-fits : (a n m : Bool) → (not (a && (n && m)) || m) ≡ true
-busy-fits true true true = refl
-busy-fits true true false = refl
-busy-fits true false m = refl
-busy-fits false n m = refl
+-- the queued command in S-RefreshReady's place
+due-form : (e : Endpoint) (connection timestamp t measured : ℕ)
+    → hasForm (sentFields (requestDue e) false connection timestamp (baselineOf (requestDue e) t measured)) ≡ true
+unfolding hasForm
+due-form e connection timestamp t measured =
+    bcase (isCommandDue e) (λ h. rw h)
+    (λ h. rw h (request-form (e .state) connection timestamp t measured))
+
+-- Busy in the replies that may have it: a done, n not ready, w waits for the station, i S-InvokeFunc, r has its result
+busy-fits : (a n w i r : Bool) → (not (a && ((n && w) || (i && not r))) || (w || i)) ≡ true
+busy-fits false n w i r = refl
+busy-fits true true true i r = refl
+busy-fits true true false true r = or-true (not (not r))
+busy-fits true true false false r = refl
+busy-fits true false true i r = or-true (not (i && not r))
+busy-fits true false false true r = or-true (not (not r))
+busy-fits true false false false r = refl
 
 -- a timestamp below 2^48 and a body's length complete the form
 writable : (f : Fields) (n : ℕ) → hasForm f ≡ true → f .timestamp < 2 ^ 48 → isBodyLength n ≡ true
@@ -104,8 +176,7 @@ module _ (e : Endpoint) (t : ℕ) where
   pub request-writable : isWritable (requestFields e t) (length (dueData e)) ≡ true
   request-writable =
       writable (requestFields e t) (length (dueData e))
-      (request-form (e .state) (e .settings .connection) (timeOf e t) t (e .setup .measured)) (omega arith)
-      (setup-length (e .settings) (requestDue e))
+      (due-form e (e .settings .connection) (timeOf e t) t (e .setup .measured)) (omega arith) (due-length e)
 
   pub refresh-writable : (n : ℕ) → isBodyLength n ≡ true → isWritable (refreshFields e t) n ≡ true
   unfolding hasForm
@@ -117,14 +188,16 @@ module _ (e : Endpoint) (t : ℕ) where
       writable (disconnectFields e t) (length (setupData (e .settings) K.Disconnect)) refl (omega arith)
       (setup-length (e .settings) K.Disconnect)
 
-  pub reply-writable : (f : Fields) (done error : Bool) (n : ℕ) → is (f .command) K.Refresh ≡ false
-      → is (f .command) K.Disconnect ≡ false
-      → isBodyLength n ≡ true → isWritable (replyFields e f (done && isBusy e (f .command)) error) n ≡ true
-  reply-writable f done error n r d l =
-      let busy = done && isBusy e (f .command) in
-      writable (replyFields e f busy error) n
+  pub reply-writable : (f : Fields) (done error : Bool) (body : List ℕ) → is (f .command) K.Refresh ≡ false
+      → is (f .command) K.Disconnect ≡ false → isBodyLength (length body) ≡ true
+      → isWritable (replyFields e f (done && isBusy e (f .command) (length body)) error)
+      (length (replyData e (f .command) body)) ≡ true
+  reply-writable f done error body r d l =
+      let busy = done && isBusy e (f .command) (length body) in
+      writable (replyFields e f busy error) (length (replyData e (f .command) body))
       (reply-form (f .command) busy error (e .settings .connection) (f .timestamp % span) r d
-      (busy-fits done (e .station .notready) (mayBeBusy (f .command)))) (omega arith) l
+      (busy-fits done (e .station .notready) (waitsForStation (f .command)) (is (f .command) K.InvokeFunc)
+      (hasResult e (length body)))) (omega arith) (reply-length e (f .command) body l)
 
 pub send-width-length : (s : Settings) → isBodyLength (sendWidth s) ≡ true
 send-width-length s = value-length (cond (s .slave) (s .slavewords) (s .masterwords))

@@ -1,24 +1,26 @@
--- What each user's call does: start, send, stop, restart, set not ready, show.
+-- What each user's call does: start, send, stop, restart, set not ready, set and clear result, invoke, show.
 use mathlib.Core.Bool.{Bool, true, false, _&&_, _||_, not, cond}
-use mathlib.Core.List.{List}
-use Prim.Native.Nat.{ℕ}
+use mathlib.Core.List.{List, _++_}
+use Prim.Native.Nat.{ℕ, _/_}
 use lib.Dec.{eqb}
 use lib.ListN.{length, take, replicate}
 use Rattle.frame.specs.declared.Command.the-variants as K
+use Rattle.frame.specs.Writing.{isBodyLength}
+use Rattle.words.specs.Words.{wordBytes}
 use Rattle.endpoint.specs.declared.State.the-variants.{Close, Refresh, Terminate}
-use Rattle.endpoint.specs.Endpoint.{Endpoint}
+use Rattle.endpoint.specs.Endpoint.{Endpoint, wordsOf}
 use Rattle.endpoint.specs.declared.Reason.the-variants as R
 use Rattle.endpoint.specs.declared.Answer.{Answer}
 use Rattle.endpoint.specs.declared.Answer.the-variants.{Done, Dropped}
 use Rattle.endpoint.specs.declared.Faults.{Faults}
 use Rattle.endpoint.specs.Answers.{callFaults, firstOf, isDone, isDropped, leftBy}
 use Rattle.endpoint.specs.Table.{isState}
-use Rattle.endpoint.specs.Due.{mayRequest, isExhausted}
+use Rattle.endpoint.specs.Due.{mayRequest, isExhausted, mayQueue}
 use Rattle.endpoint.specs.Time.{isAbove, endedOf, timeOf}
-use Rattle.endpoint.specs.Updates.{withNotReady}
-use Rattle.transitions.specs.ByCall.{startedOf, restartedOf, requestedOf, refreshSentOf, stoppedOf}
+use Rattle.endpoint.specs.Updates.{withWords, withNotReady}
+use Rattle.transitions.specs.ByCall.{startedOf, restartedOf, requestedOf, refreshSentOf, stoppedOf, queuedOf}
 use Rattle.steps.specs.Frames.{Written, nothing, frame, setupData, dueData, sendWidth, showWidth, requestFields}
-use Rattle.steps.specs.Frames.{refreshFields, disconnectFields}
+use Rattle.steps.specs.Frames.{refreshFields, disconnectFields, paddedOf}
 
 -- what a call comes to: its answer, the endpoint it leaves, what it writes
 pub record Outcome : Type 0 where
@@ -51,6 +53,39 @@ restartOf e = cond (isState (e .state) Terminate) (outcome Done (restartedOf e) 
 abbrev pub setNotReadyOf : Endpoint → Bool → Outcome
 setNotReadyOf e b =
     cond (e .settings .slave) (outcome Done (withNotReady b e) nothing) (dropped e (Dropped R.Turn))
+
+-- ---- S-Data that a user hands over: 1 to 25 words, or 12
+-- of a call that hands over so many bytes, and has its turn or not
+abbrev pub handFaults : Bool → ℕ → Faults
+handFaults turn n = callFaults (not turn) (not (isBodyLength n)) false false
+
+-- a result, set by a slave's user in any state: n bytes of S-Data, from the front of these
+abbrev pub resultWith : Endpoint → ℕ → List ℕ → Outcome
+resultWith e n bytes =
+    let a = firstOf (handFaults (e .settings .slave) n) in
+    cond (isDone a) (outcome Done (withWords (wordsOf (n / 4) bytes) e) nothing) (dropped e a)
+
+abbrev pub setResultOf : Endpoint → List ℕ → Outcome
+setResultOf e body = resultWith e (length body) (paddedOf body)
+
+-- cleared: it has no words; the bytes stay, and nobody looks at them
+abbrev pub clearResultOf : Endpoint → Outcome
+clearResultOf e =
+    cond (e .settings .slave) (outcome Done (withWords (wordsOf 0 (e .words .bytes)) e) nothing)
+    (dropped e (Dropped R.Turn))
+
+-- a command, queued by a master's user in setup: n bytes of S-Data, from the front of these
+abbrev pub queueWith : Endpoint → ℕ → List ℕ → Outcome
+queueWith e n bytes =
+    let a = firstOf (handFaults (mayQueue e) n) in
+    cond (isDone a) (outcome Done (queuedOf e (wordsOf (n / 4) bytes)) nothing) (dropped e a)
+
+-- S-InvokeFunc: the command word, and 0 to 24 further words
+abbrev pub commandData : ℕ → List ℕ → List ℕ
+commandData word bytes = wordBytes word ++ bytes
+
+abbrev pub invokeOf : Endpoint → ℕ → List ℕ → Outcome
+invokeOf e word bytes = queueWith e (length (commandData word bytes)) (paddedOf (commandData word bytes))
 
 -- ---- send: a master's next request in setup if none is pending; S-Refresh in Refresh
 -- of a send with this timestamp

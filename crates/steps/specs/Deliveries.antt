@@ -1,14 +1,17 @@
 -- What a frame of this connection does when it is delivered: fields and body as the reader gives them.
-use mathlib.Core.Bool.{_&&_, _||_, not, cond, Bool·beq}
-use mathlib.Core.List.{List, _++_}
+use mathlib.Core.Bool.{Bool, _&&_, _||_, not, cond, Bool·beq}
+use mathlib.Core.List.{List}
 use Prim.Native.Nat.{ℕ}
 use lib.Dec.{eqb}
-use lib.ListN.{length, take, drop, replicate}
+use lib.ListN.{length}
+use Rattle.frame.specs.declared.Command.{Command}
 use Rattle.frame.specs.declared.Command.the-variants as K
 use Rattle.frame.specs.declared.Fields.{Fields}
 use Rattle.frame.specs.Control.{is}
+use Rattle.frame.specs.Writing.{isBodyLength}
 use Rattle.words.specs.Bytes.{same}
 use Rattle.endpoint.specs.declared.State.the-variants.{Refresh}
+use Rattle.endpoint.specs.declared.Settings.{Settings}
 use Rattle.endpoint.specs.Endpoint.{Endpoint}
 use Rattle.endpoint.specs.declared.Reason.the-variants as R
 use Rattle.endpoint.specs.declared.Answer.{Answer}
@@ -16,10 +19,13 @@ use Rattle.endpoint.specs.declared.Answer.the-variants.{Dropped}
 use Rattle.endpoint.specs.declared.Faults.{Faults}
 use Rattle.endpoint.specs.Answers.{setupFaults, valueFaults, firstOf, isDone, isDropped, isEnded, leftBy}
 use Rattle.endpoint.specs.Table.{isState, isSetup, nextOf, isNo}
-use Rattle.endpoint.specs.Due.{requestDue, isPending, answersTo, isBusy}
+use Rattle.endpoint.specs.Due.{requestDue, isPending, answersTo}
 use Rattle.endpoint.specs.Time.{ageOf, isAbove, isTooFarAhead, allowanceOf, isTooLate, endedOf}
 use Rattle.transitions.specs.ByFrame.{refreshedOf, endedBy, takenOf, heardOf}
-use Rattle.steps.specs.Frames.{Written, nothing, frame, setupData, dueData, showWidth, replyFields}
+use Rattle.steps.specs.Frames.{Written, nothing, frame, setupData, dueData, showWidth, replyFields, isBusy}
+use Rattle.steps.specs.Frames.{replyData}
+use Rattle.steps.specs.Frames as W
+use Rattle.steps.specs.Frames.{paddedOf}
 use Rattle.steps.specs.Calls.{Outcome, outcome, dropped}
 
 -- ---- S-Refresh, at either end
@@ -30,28 +36,33 @@ refreshFaults e t stamp width =
     (isTooFarAhead (ageOf e t stamp) (allowanceOf (e .settings)))
     (isTooLate (ageOf e t stamp) (e .settings .age))
 
--- a body in an array of 100, with zeros after it
-abbrev pub paddedOf : List ℕ → List ℕ
-paddedOf body = take 100 body ++ drop (length body) (replicate 100 0)
-
 abbrev pub takeRefresh : Endpoint → ℕ → ℕ → List ℕ → Outcome
 takeRefresh e t stamp body =
     let a = firstOf (refreshFaults e t stamp (length body)) in
     outcome a (leftBy a e (endedOf e) (refreshedOf e t stamp (paddedOf body))) nothing
 
 -- ---- a request at a slave
+-- its S-Data has the right length: of S-InvokeFunc any that S-Data can have
+abbrev pub isWidth : Settings → Command → ℕ → Bool
+isWidth s k n = cond (is k K.InvokeFunc) (isBodyLength n) (eqb n (length (setupData s k)))
+
+-- and the right contents: not looked at in S-Disconnect, and in S-InvokeFunc the user's own
+abbrev pub isExpected : Settings → Command → List ℕ → Bool
+isExpected s k body = is k K.Disconnect || (is k K.InvokeFunc || same body (setupData s k))
+
 abbrev pub requestFaults : Endpoint → Fields → List ℕ → Faults
 requestFaults e f body =
     setupFaults (isNo (nextOf (f .command) (e .state)))
-    (not (eqb (length body) (length (setupData (e .settings) (f .command)))))
+    (not (isWidth (e .settings) (f .command) (length body)))
     (not (isAbove (e .timestamps .accepted) (f .timestamp)))
-    (not (is (f .command) K.Disconnect) && not (same body (setupData (e .settings) (f .command))))
+    (not (isExpected (e .settings) (f .command) body))
 
 -- the reply, with Error 1 and never Busy where the contents differ; S-Disconnect has none
 abbrev pub repliedOf : Endpoint → Fields → List ℕ → Answer → Written
 repliedOf e f body a =
     cond (isDropped a || is (f .command) K.Disconnect) nothing
-    (frame (replyFields e f (isDone a && isBusy e (f .command)) (isEnded a)) body)
+    (frame (replyFields e f (isDone a && isBusy e (f .command) (length body)) (isEnded a))
+    (replyData e (f .command) body))
 
 abbrev pub takeRequest : Endpoint → ℕ → Fields → List ℕ → Outcome
 takeRequest e t f body =
@@ -59,18 +70,22 @@ takeRequest e t f body =
     outcome a (leftBy a e (endedBy e (f .timestamp)) (takenOf e t f)) (repliedOf e f body a)
 
 -- ---- a reply at a master: to its pending request
+-- the result of a queued command, which is not compared with its request and goes to the output
+abbrev pub isResult : Fields → Bool
+isResult f = is (f .command) K.InvokeFunc && not (f .busy)
+
 abbrev pub replyFaults : Endpoint → Fields → List ℕ → Faults
 replyFaults e f body =
     setupFaults
     (not (isSetup (e .state) && (f .ack && (isPending (e .setup .pending) && is (f .command) (requestDue e)))))
     (not (eqb (length body) (length (dueData e))))
     (not (answersTo (e .setup .pending) (f .timestamp)))
-    (f .error || not (same body (dueData e)))
+    (f .error || not (isResult f || same body (dueData e)))
 
 abbrev pub takeReply : Endpoint → ℕ → Fields → List ℕ → Outcome
 takeReply e t f body =
     let a = firstOf (replyFaults e f body) in
-    outcome a (leftBy a e (endedOf e) (heardOf e t f)) nothing
+    outcome a (leftBy a e (endedOf e) (heardOf e t f)) (cond (isDone a && isResult f) (W.value body) nothing)
 
 -- ---- a frame of this connection: one's own reflected first (number 10), then by its command and the role
 abbrev pub deliverOf : Endpoint → ℕ → Fields → List ℕ → Outcome

@@ -2,7 +2,8 @@
 use mathlib.Core.Bool.{Bool, true, false, _&&_, _||_, not, cond}
 use mathlib.Core.List.{List, [], _∷_, _++_}
 use Prim.Native.Nat.{ℕ, _+_, _-_, _*_, _%_}
-use lib.Dec.{leb}
+use lib.Dec.{eqb, leb}
+use lib.ListN.{length, take, drop, replicate}
 use Rattle.frame.specs.declared.Command.{Command}
 use Rattle.frame.specs.declared.Command.the-variants as K
 use Rattle.frame.specs.declared.Subconnection.the-variants.{Absent}
@@ -11,8 +12,8 @@ use Rattle.words.specs.Words.{wordBytes}
 use Rattle.frame.specs.Control.{is}
 use Rattle.frame.specs.Writing.{frameBytes}
 use Rattle.endpoint.specs.declared.Settings.{Settings}
-use Rattle.endpoint.specs.Endpoint.{Endpoint}
-use Rattle.endpoint.specs.Due.{requestDue}
+use Rattle.endpoint.specs.Endpoint.{Endpoint, Words}
+use Rattle.endpoint.specs.Due.{isCommandDue, requestDue, isHeldBack}
 use Rattle.endpoint.specs.Time.{span, timeOf}
 
 -- what a call writes: a frame for the bus, or bytes for its user
@@ -31,11 +32,13 @@ abbrev pub wordsBytes : List ℕ → List ℕ
 wordsBytes [] = []
 wordsBytes (w ∷ ws) = wordBytes w ++ wordsBytes ws
 
--- the words that a setup request carries, and that the slave compares; S-Disconnect's zero word is not looked at
+-- the words that a setup request carries, and that the slave compares; S-Disconnect's zero word is not looked at, and
+-- those of S-InvokeFunc are its user's (dueData)
 abbrev pub setupWords : Settings → Command → List ℕ
 setupWords s K.Connect = 1 ∷ []
 setupWords s K.ConfirmNetwork = s .interval ∷ s .roundtrip ∷ s .age ∷ (32 * s .masterwords + s .slavewords) ∷ []
 setupWords s K.VerifyStation = s .station ∷ []
+setupWords s K.InvokeFunc = 0 ∷ []
 setupWords s K.RefreshReady = 0 ∷ []
 setupWords s K.RefreshGo = 0 ∷ []
 setupWords s K.Refresh = 0 ∷ []
@@ -44,13 +47,25 @@ setupWords s K.Disconnect = 0 ∷ []
 unfoldable pub setupData : Settings → Command → List ℕ
 setupData s k = wordsBytes (setupWords s k)
 
--- the same of the request due from a master
-abbrev pub dueData : Endpoint → List ℕ
-dueData e = setupData (e .settings) (requestDue e)
+-- S-Data has 1 to 25 words
+abbrev pub isCount : ℕ → Bool
+isCount words = leb 1 words && leb words 25
 
--- bytes of a value of so many words; a count outside 1 to 25, which no loaded list has, is taken for 1
+-- bytes of so many words; a count outside 1 to 25, which no loaded list has, is taken for 1
 abbrev pub widthOf : ℕ → ℕ
-widthOf words = 4 * cond (leb 1 words && leb words 25) words 1
+widthOf words = 4 * cond (isCount words) words 1
+
+-- bytes in an array of 100, with zeros after them
+abbrev pub paddedOf : List ℕ → List ℕ
+paddedOf body = take 100 body ++ drop (length body) (replicate 100 0)
+
+-- the words that its user has handed over, as bytes, from the front of what is held; past its end there are zeros
+unfoldable pub handedOver : Words → List ℕ
+handedOver w = take (widthOf (w .count)) (paddedOf (w .bytes))
+
+-- what the request due from a master carries: the queued command's words, or those of a setup request
+abbrev pub dueData : Endpoint → List ℕ
+dueData e = cond (isCommandDue e) (handedOver (e .words)) (setupData (e .settings) (requestDue e))
 
 -- bytes of the value that an endpoint sends, and of the one that it shows
 abbrev pub sendWidth : Settings → ℕ
@@ -110,6 +125,22 @@ disconnectFields e t = sentFields K.Disconnect false (e .settings .connection) (
 -- the reply to a request: its Cmd and timestamp (of 48 bits)
 abbrev pub replyFields : Endpoint → Fields → Bool → Bool → Fields
 replyFields e f busy error = ackFields (f .command) busy error (e .settings .connection) (f .timestamp % span)
+
+-- a station's result is set, and of a request's length
+abbrev pub hasResult : Endpoint → ℕ → Bool
+hasResult e n = isCount (e .words .count) && eqb n (widthOf (e .words .count))
+
+-- S-InvokeFunc has its result: "which while set is the reply if of the same length"
+abbrev pub isPerformed : Endpoint → Command → ℕ → Bool
+isPerformed e k n = is k K.InvokeFunc && hasResult e n
+
+-- Busy: the station is not ready, or "else work is in progress"
+abbrev pub isBusy : Endpoint → Command → ℕ → Bool
+isBusy e k n = isHeldBack e k || (is k K.InvokeFunc && not (hasResult e n))
+
+-- the S-Data of the reply: the result, or the request's own
+abbrev pub replyData : Endpoint → Command → List ℕ → List ℕ
+replyData e k body = cond (isPerformed e k (length body)) (handedOver (e .words)) body
 
 -- a setup request: no reply, and neither S-Refresh nor S-Disconnect
 abbrev pub isRequest : Fields → Bool

@@ -3,31 +3,32 @@ use mathlib.Core.Path.{_≡_}
 use mathlib.Core.Bool.{Bool, true, false, _&&_, cond}
 use mathlib.Core.List.{List}
 use mathlib.Core.Logic.{_⊎_}
-use Prim.Native.Nat.{ℕ, _+_, _*_, _^_, _≤_, _<_}
+use Prim.Native.Nat.{ℕ, _+_, _/_, _≤_, _<_}
 use lib.ListN.{length}
 use Rattle.frame.specs.declared.Command.the-variants as K
 use Rattle.frame.specs.declared.Fields.{Fields}
 use Rattle.frame.specs.Control.{is}
-use Rattle.words.specs.Bytes.{Bytes}
-use Rattle.frame.specs.RoundTrip.{Typed, Readable}
+use Rattle.frame.specs.RoundTrip.{Readable}
 use Rattle.endpoint.specs.declared.Settings.{Settings}
 use Rattle.endpoint.specs.declared.State.the-variants.{Close, Refresh, Terminate}
 use Rattle.endpoint.specs.declared.Pending.the-variants.{Nothing, Asked}
-use Rattle.endpoint.specs.Endpoint.{Endpoint}
+use Rattle.endpoint.specs.Endpoint.{Endpoint, wordsOf}
 use Rattle.endpoint.specs.declared.Reason.{Reason}
 use Rattle.endpoint.specs.declared.Answer.the-variants.{Done, Dropped}
 use Rattle.endpoint.specs.Table.{isState, isSetup, isNo, nextOf}
-use Rattle.endpoint.specs.Due.{requestDue, requestLimit, isBusy}
+use Rattle.endpoint.specs.Due.{requestDue, requestLimit, mayQueue}
 use Rattle.endpoint.specs.Answers.{isDone}
 use Rattle.endpoint.specs.Time.{isAbove, isTooFarAhead, isTooLate, allowanceOf, timeOf, ageOf}
-use Rattle.endpoint.specs.Updates.{withNotReady}
-use Rattle.transitions.specs.ByCall.{startedOf, restartedOf, requestedOf, refreshSentOf, stoppedOf}
+use Rattle.endpoint.specs.Updates.{withWords, withNotReady}
+use Rattle.transitions.specs.ByCall.{startedOf, restartedOf, requestedOf, refreshSentOf, stoppedOf, queuedOf}
 use Rattle.transitions.specs.ByFrame.{refreshedOf, answeredOf, endedBy, heardOf}
 use Rattle.steps.specs.Frames.{Written, nothing, frame, setupData, dueData, sendWidth, showWidth, requestFields}
-use Rattle.steps.specs.Frames.{refreshFields, replyFields, isRequest}
+use Rattle.steps.specs.Frames.{refreshFields, replyFields, isBusy, replyData, isRequest}
 use Rattle.steps.specs.Frames as W
 use Rattle.steps.specs.Calls.{outcome, dropped, disconnectOf, startOf, restartOf, setNotReadyOf, sendOf, stopOf}
-use Rattle.steps.specs.Deliveries.{paddedOf, takeRefresh, takeRequest, takeReply}
+use Rattle.steps.specs.Frames.{paddedOf}
+use Rattle.steps.specs.Calls.{setResultOf, clearResultOf, commandData, invokeOf}
+use Rattle.steps.specs.Deliveries.{isWidth, isResult, takeRefresh, takeRequest, takeReply}
 use Rattle.steps.specs.Steps.{begins, Call, act, send, deliver, show, stepOf}
 
 -- a frame that is written reads back, and carries the endpoint's CID and its role's Application bit
@@ -37,33 +38,11 @@ Carries e (frame f body) =
     Readable f body × (f .connection ≡ e .settings .connection) × (f .application ≡ e .settings .slave)
 Carries e (W.value bytes) = Unit {0}
 
--- settings whose numbers fit into the words of setup requests
-pub record SettingsFit (s : Settings) : Type 0 where
-  pub connection : s .connection < 2 ^ 32
-  pub interval : s .interval < 2 ^ 32
-  pub roundtrip : s .roundtrip < 2 ^ 32
-  pub age : s .age < 2 ^ 32
-  pub words : 32 * s .masterwords + s .slavewords < 2 ^ 32
-  pub station : s .station < 2 ^ 32
-
 -- settings whose times are a loaded list's
 pub record Ticks (s : Settings) : Type 0 where
   pub interval : s .interval ≤ 65535
   pub roundtrip : s .roundtrip ≤ 65535
   pub age : s .age ≤ 65535
-
--- a frame that is written has its numbers within their types
-abbrev pub IsTyped : Written → Type 0
-IsTyped nothing = Unit {0}
-IsTyped (frame f body) = Typed f body
-IsTyped (W.value bytes) = Unit {0}
-
--- what a call hands over are bytes
-abbrev pub HandsBytes : Call → Type 0
-HandsBytes (act a) = Unit {0}
-HandsBytes (send value) = Bytes value
-HandsBytes (deliver f body) = Bytes body
-HandsBytes show = Unit {0}
 
 -- ---- the count of setup requests
 -- how many of them are written
@@ -91,6 +70,20 @@ pub record RestartDone (e : Endpoint) : Type 0 where
 pub record NotReadySet (e : Endpoint) (b : Bool) : Type 0 where
   pub slave : e .settings .slave ≡ true
   pub comes : setNotReadyOf e b ≡ outcome Done (withNotReady b e) nothing
+
+pub record ResultSet (e : Endpoint) (body : List ℕ) : Type 0 where
+  pub slave : e .settings .slave ≡ true
+  pub comes : setResultOf e body ≡ outcome Done (withWords (wordsOf (length body / 4) (paddedOf body)) e) nothing
+
+pub record ResultCleared (e : Endpoint) : Type 0 where
+  pub slave : e .settings .slave ≡ true
+  pub comes : clearResultOf e ≡ outcome Done (withWords (wordsOf 0 (e .words .bytes)) e) nothing
+
+pub record CommandQueued (e : Endpoint) (word : ℕ) (bytes : List ℕ) : Type 0 where
+  pub may : mayQueue e ≡ true
+  pub comes : invokeOf e word bytes
+      ≡ outcome Done (queuedOf e (wordsOf (length (commandData word bytes) / 4) (paddedOf (commandData word bytes))))
+      nothing
 
 pub record RefreshSent (e : Endpoint) (t : ℕ) (value : List ℕ) : Type 0 where
   pub refresh : isState (e .state) Refresh ≡ true
@@ -124,9 +117,11 @@ pub record RefreshTaken (e : Endpoint) (t stamp : ℕ) (body : List ℕ) : Type 
 pub record RequestTaken (e : Endpoint) (t : ℕ) (f : Fields) (body : List ℕ) : Type 0 where
   pub turn : isNo (nextOf (f .command) (e .state)) ≡ false
   pub above : isAbove (e .timestamps .accepted) (f .timestamp) ≡ true
-  pub contents : body ≡ setupData (e .settings) (f .command)
+  pub width : isWidth (e .settings) (f .command) (length body) ≡ true
+  pub contents : is (f .command) K.InvokeFunc ≡ false → body ≡ setupData (e .settings) (f .command)
   pub comes : takeRequest e t f body
-      ≡ outcome Done (answeredOf e t f) (frame (replyFields e f (isBusy e (f .command)) false) body)
+      ≡ outcome Done (answeredOf e t f)
+      (frame (replyFields e f (isBusy e (f .command) (length body)) false) (replyData e (f .command) body))
 
 pub record DisconnectTaken (e : Endpoint) (t : ℕ) (f : Fields) (body : List ℕ) : Type 0 where
   pub turn : isNo (nextOf (f .command) (e .state)) ≡ false
@@ -138,16 +133,14 @@ pub record ReplyTaken (e : Endpoint) (t : ℕ) (f : Fields) (body : List ℕ) : 
   pub pending : e .setup .pending ≡ Asked (f .timestamp)
   pub command : is (f .command) (requestDue e) ≡ true
   pub sound : f .error ≡ false
-  pub contents : body ≡ dueData e
-  pub comes : takeReply e t f body ≡ outcome Done (heardOf e t f) nothing
+  pub contents : isResult f ≡ false → body ≡ dueData e
+  pub comes : takeReply e t f body ≡ outcome Done (heardOf e t f) (cond (isResult f) (W.value body) nothing)
 
 pub record StepLaws : Type 0 where
   -- settings never change
   pub keeps : (e : Endpoint) (t : ℕ) (call : Call) → stepOf e t call .endpoint .settings ≡ e .settings
   -- a frame that is written reads back, and is the endpoint's
   pub carries : (e : Endpoint) (t : ℕ) (call : Call) → Carries e (stepOf e t call .writes)
-  pub typed : (e : Endpoint) (t : ℕ) (call : Call) → SettingsFit (e .settings) → HandsBytes call
-      → IsTyped (stepOf e t call .writes)
   -- a refusal that does not end the connection leaves all as it was
   pub drops : (e : Endpoint) (t : ℕ) (call : Call) (r : Reason) → stepOf e t call .answer ≡ Dropped r
       → stepOf e t call ≡ dropped e (Dropped r)
@@ -161,6 +154,10 @@ pub record StepLaws : Type 0 where
   pub start-done : (e : Endpoint) (t : ℕ) → startOf e t .answer ≡ Done → StartDone e t
   pub restart-done : (e : Endpoint) → restartOf e .answer ≡ Done → RestartDone e
   pub not-ready-set : (e : Endpoint) (b : Bool) → setNotReadyOf e b .answer ≡ Done → NotReadySet e b
+  pub result-set : (e : Endpoint) (body : List ℕ) → setResultOf e body .answer ≡ Done → ResultSet e body
+  pub result-cleared : (e : Endpoint) → clearResultOf e .answer ≡ Done → ResultCleared e
+  pub command-queued : (e : Endpoint) (word : ℕ) (bytes : List ℕ) → invokeOf e word bytes .answer ≡ Done
+      → CommandQueued e word bytes
   pub send-done : (e : Endpoint) (t : ℕ) (value : List ℕ) → sendOf e t value .answer ≡ Done
       → RefreshSent e t value ⊎ RequestSent e t value
   pub stop-done : (e : Endpoint) (t : ℕ) → stopOf e t .answer ≡ Done → StopDone e t

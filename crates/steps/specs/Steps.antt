@@ -8,15 +8,19 @@ use Rattle.endpoint.specs.declared.Reason.the-variants as R
 use Rattle.endpoint.specs.declared.Answer.the-variants.{Done, Ended}
 use Rattle.endpoint.specs.Time.{isExpired, endedOf}
 use Rattle.steps.specs.Frames as W
-use Rattle.steps.specs.Calls.{Outcome, outcome, startOf, sendOf, stopOf, restartOf, setNotReadyOf, shownOf}
+use Rattle.steps.specs.Calls.{Outcome, outcome, startOf, sendOf, stopOf, restartOf, setNotReadyOf, setResultOf}
+use Rattle.steps.specs.Calls.{clearResultOf, invokeOf, shownOf}
 use Rattle.steps.specs.Deliveries.{deliverOf}
 
--- the calls that hand over no bytes, and show nothing
+-- the calls that hand over no value and no frame, and show nothing
 pub data Act : Type 0 where
   start : Act
   stop : Act
   restart : Act
   setNotReady : Bool → Act
+  setResult : List ℕ → Act
+  clearResult : Act
+  invoke : ℕ → List ℕ → Act
 
 -- only a start begins the count of requests anew
 abbrev pub begins : Act → Bool
@@ -24,6 +28,9 @@ begins start = true
 begins stop = false
 begins restart = false
 begins (setNotReady b) = false
+begins (setResult body) = false
+begins clearResult = false
+begins (invoke word bytes) = false
 
 pub data Call : Type 0 where
   act : Act → Call
@@ -36,6 +43,9 @@ actOf e t start = startOf e t
 actOf e t stop = stopOf e t
 actOf e t restart = restartOf e
 actOf e t (setNotReady b) = setNotReadyOf e b
+actOf e t (setResult body) = setResultOf e body
+actOf e t clearResult = clearResultOf e
+actOf e t (invoke word bytes) = invokeOf e word bytes
 
 -- what a call does to an endpoint whose timer has not expired; a show changes nothing
 abbrev pub stepOf : Endpoint → ℕ → Call → Outcome

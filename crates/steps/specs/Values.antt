@@ -1,5 +1,5 @@
--- No call but a show looks at the bytes of the value held: where they are others it comes to the same, but for the
--- bytes that it leaves.
+-- No call but a show looks at the bytes of the value held, and none but a send and a deliver in setup at those of the
+-- words that its user handed over: where they are others it comes to the same, but for the bytes that it leaves.
 use mathlib.Core.Path.{_≡_}
 use mathlib.Core.Bool.{Bool, true, false, _&&_, cond}
 use mathlib.Core.List.{List, []}
@@ -7,13 +7,15 @@ use Prim.Native.Nat.{ℕ}
 use lib.ListN.{replicate}
 use Rattle.frame.specs.declared.Command.the-variants as K
 use Rattle.frame.specs.Control.{is}
-use Rattle.endpoint.specs.Endpoint.{Endpoint}
+use Rattle.endpoint.specs.Endpoint.{Endpoint, wordsOf}
 use Rattle.endpoint.specs.declared.Answer.{Answer}
 use Rattle.endpoint.specs.Answers.{isDone}
+use Rattle.endpoint.specs.Table.{isSetup}
 use Rattle.endpoint.specs.Time.{Tidy, endedOf, afterTick}
-use Rattle.endpoint.specs.Updates.{holding}
-use Rattle.steps.specs.Calls.{Outcome}
-use Rattle.steps.specs.Deliveries.{paddedOf}
+use Rattle.endpoint.specs.Updates.{withWords, holding}
+use Rattle.steps.specs.Frames.{paddedOf}
+use Rattle.steps.specs.Calls.{Outcome, commandData}
+use Rattle.steps.specs.Steps.{Act, start, stop, restart, setNotReady, setResult, clearResult, invoke}
 use Rattle.steps.specs.Steps.{Call, act, send, deliver, show, stepOf}
 
 -- an endpoint whose value has other bytes
@@ -61,3 +63,55 @@ pub record ValueLaws : Type 0 where
   pub step-tidy : (e : Endpoint) (t : ℕ) (k : Call) → Tidy e → Tidy (stepOf e t k .endpoint)
   pub end-tidy : (e : Endpoint) → Tidy (endedOf e)
   pub tick-tidy : (e : Endpoint) (t : ℕ) → Tidy e → Tidy (afterTick e t)
+
+-- ---- the words that its user handed over
+-- an endpoint whose words have other bytes
+abbrev pub withWordBytes : List ℕ → Endpoint → Endpoint
+withWordBytes w e = withWords (wordsOf (e .words .count) w) e
+
+-- a call that looks at them, or may
+abbrev pub looks : Endpoint → Call → Bool
+looks e (act a) = false
+looks e (send value) = isSetup (e .state)
+looks e (deliver f body) = isSetup (e .state)
+looks e show = false
+
+-- a call that hands words over, and the words
+abbrev pub handsOver : Act → Bool
+handsOver start = false
+handsOver stop = false
+handsOver restart = false
+handsOver (setNotReady b) = false
+handsOver (setResult body) = true
+handsOver clearResult = false
+handsOver (invoke word bytes) = true
+
+abbrev pub handedIn : Act → List ℕ
+handedIn start = []
+handedIn stop = []
+handedIn restart = []
+handedIn (setNotReady b) = []
+handedIn (setResult body) = body
+handedIn clearResult = []
+handedIn (invoke word bytes) = commandData word bytes
+
+-- the bytes after a call that was answered so, where w were held before it
+abbrev pub wordsAfter : Call → Answer → List ℕ → List ℕ
+wordsAfter (act x) a w = cond (isDone a && handsOver x) (paddedOf (handedIn x)) w
+wordsAfter (send value) a w = w
+wordsAfter (deliver f body) a w = w
+wordsAfter show a w = w
+
+-- a call that comes to o on e, and to o′ where e holds the bytes w
+pub record WordsLeft (k : Call) (w : List ℕ) (o o′ : Outcome) : Type 0 where
+  pub answered : o′ .answer ≡ o .answer
+  pub writes : o′ .writes ≡ o .writes
+  pub left : o′ .endpoint ≡ withWordBytes (wordsAfter k (o .answer) w) (o .endpoint)
+
+pub record WordsLaws : Type 0 where
+  -- a call that does not look at them
+  pub apart : (e : Endpoint) (t : ℕ) (k : Call) (w : List ℕ) → looks e k ≡ false
+      → WordsLeft k w (stepOf e t k) (stepOf (withWordBytes w e) t k)
+  -- and each leaves them, or what it hands over
+  pub left : (e : Endpoint) (t : ℕ) (k : Call)
+      → stepOf e t k .endpoint .words .bytes ≡ wordsAfter k (stepOf e t k .answer) (e .words .bytes)

@@ -3,27 +3,31 @@ ghost use mathlib.Core.Path.{_≡_};
 ghost use Rattle.endpoint.specs.Endpoint.{bare, coreOf};
 ghost use Rattle.transitions.specs.ByFrame.{endedBy, takenOf};
 ghost use mathlib.Core.Bool.{false, cond};
-ghost use mathlib.Core.List.{_++_};
-ghost use Prim.Native.Nat.{ℕ, _≤_};
-ghost use lib.ListN.{length, take, drop, replicate};
+ghost use Prim.Native.Nat.{_≤_};
+ghost use lib.ListN.{length};
 ghost use Rattle.frame.specs.declared.Command.the-variants as K;
 ghost use Rattle.frame.specs.Control.{is};
-ghost use Rattle.words.specs.Bytes.{same};
 ghost use Rattle.endpoint.specs.Answers.{firstOf};
-ghost use Rattle.steps.specs.Deliveries.{refreshFaults, paddedOf, takeRefresh, requestFaults, takeRequest};
-ghost use Rattle.steps.specs.Deliveries.{replyFaults, takeReply, deliverOf};
-ghost use Rattle.steps.specs.Says.{bytesIn, plainStep, withRoom, StepSays};
-use super::SetupData;
+ghost use Rattle.steps.specs.Deliveries.{refreshFaults, takeRefresh, isWidth, isExpected, requestFaults};
+ghost use Rattle.steps.specs.Deliveries.{takeRequest, isResult, replyFaults, takeReply, deliverOf};
+ghost use Rattle.steps.specs.Says.{plainStep, withRoom, StepSays};
+ghost use Rattle.steps.specs.Values.{withWordBytes};
 use super::Stepped;
-use super::frames::due_data;
+use super::frames::due_length;
+use super::frames::is_busy;
+use super::frames::is_data;
+use super::frames::is_due;
 use super::frames::reply_fields;
 use super::frames::setup_data;
 use super::frames::show_width;
+use super::frames::write_reply;
 use super::lifecycle::refused;
 use super::lifecycle::stepped;
+use bytes::copy;
 use endpoint::Answer;
 use endpoint::Core;
 use endpoint::Reason;
+use endpoint::Settings;
 use endpoint::State;
 use endpoint::answers::first_of;
 use endpoint::answers::is_done;
@@ -32,7 +36,6 @@ use endpoint::answers::is_ended;
 use endpoint::answers::setup_faults;
 use endpoint::answers::value_faults;
 use endpoint::due::answers_to;
-use endpoint::due::is_busy;
 use endpoint::due::is_pending;
 use endpoint::due::request_due;
 use endpoint::table::is_no;
@@ -49,12 +52,11 @@ use frame::Fields;
 use frame::LONGEST_FRAME;
 use frame::control::is;
 use frame::write::head_of;
-use frame::write::write_head;
+use frame::write::is_body_length;
 use transitions::by_frame::ended_by;
 use transitions::by_frame::heard;
 use transitions::by_frame::refreshed;
 use transitions::by_frame::taken;
-use words::same;
 
 fn refresh_answer(e: Core, clock: u64, stamp: u64, width: usize) -> Answer
     ensures { λ r. ⌜ r ≡ firstOf (refreshFaults (bare e) clock stamp width) ⌝ }
@@ -72,30 +74,6 @@ fn refresh_answer(e: Core, clock: u64, stamp: u64, width: usize) -> Answer
     first_of(value_faults(!refresh, width != due, !above, ahead, late))
 }
 
-// The first n bytes of a body, with zeros after them.
-fn copied(body: &[u8], n: usize) -> [u8; 100]
-    requires { ⌜ (n ≤ 100) × (n ≤ length (now body)) ⌝ }
-    ensures { λ r. ⌜ r ≡ take n (now (body .entry)) ++ drop n (replicate {A = ℕ} 100 0) ⌝ }
-{
-    let mut bytes = [0u8; 100];
-    let mut i = 0;
-    while i < n {
-        bytes[i] = body[i];
-        i += 1;
-    }
-    bytes
-}
-
-// A body in an array, with zeros after it.
-pub fn padded(body: &[u8]) -> [u8; 100]
-    ensures { λ r. ⌜ r ≡ paddedOf (now (body .entry)) ⌝ }
-{
-    if body.len() < 100 {
-        return copied(body, body.len());
-    }
-    copied(body, 100)
-}
-
 // An S-Refresh of the other end.
 fn take_refresh(e: Core, clock: u64, stamp: u64, body: &[u8]) -> Stepped
     ensures { λ r. ⌜ r ≡ plainStep (takeRefresh (bare e) clock stamp (now (body .entry))) ⌝ }
@@ -107,14 +85,22 @@ fn take_refresh(e: Core, clock: u64, stamp: u64, body: &[u8]) -> Stepped
     refused(answer, e)
 }
 
-// Whether a body is the data of a setup request.
-fn is_data(body: &[u8], due: SetupData) -> bool
-    requires { ⌜ due .length ≤ length (due .bytes) ⌝ }
-    ensures { λ r. ⌜ r ≡ same (now (body .entry)) (bytesIn due) ⌝ }
+// Whether a request's data has the right length.
+fn is_width(s: Settings, k: Command, n: usize) -> bool
+    ensures { λ r. ⌜ r ≡ isWidth s k n ⌝ }
 {
-    let bytes = due.bytes;
-    let n = due.length;
-    same(body, &bytes[..n])
+    if is(k, Command::InvokeFunc) {
+        return is_body_length(n);
+    }
+    let data = setup_data(s, k);
+    n == data.length
+}
+
+// Whether a request's data is the right one.
+fn is_expected(s: Settings, k: Command, body: &[u8]) -> bool
+    ensures { λ r. ⌜ r ≡ isExpected s k (now (body .entry)) ⌝ }
+{
+    is(k, Command::Disconnect) | (is(k, Command::InvokeFunc) | is_data(body, setup_data(s, k)))
 }
 
 fn request_answer(e: Core, f: Fields, body: &[u8]) -> Answer
@@ -127,10 +113,9 @@ fn request_answer(e: Core, f: Fields, body: &[u8]) -> Answer
     let k = f.command;
     let no = is_no(next_state(k, state));
     let above = is_above(last, f.timestamp);
-    let disconnect = is(k, Command::Disconnect);
-    let data = setup_data(settings, k);
-    let equal = is_data(body, data);
-    first_of(setup_faults(no, body.len() != data.length, !above, !disconnect & !equal))
+    let fits = is_width(settings, k, body.len());
+    let expected = is_expected(settings, k, body);
+    first_of(setup_faults(no, !fits, !above, !expected))
 }
 
 // What a request that is answered leaves: done, or ended.
@@ -144,9 +129,17 @@ fn left(done: bool, e: Core, clock: u64, f: Fields) -> Core
 }
 
 // A request at a slave, with its reply.
-fn take_request(e: Core, clock: u64, f: Fields, body: &[u8], out: &mut [u8]) -> Stepped
+fn take_request(
+    e: Core,
+    words: &[u8],
+    clock: u64,
+    f: Fields,
+    body: &[u8],
+    out: &mut [u8],
+) -> Stepped
     requires { ⌜ (248 ≤ length (now out)) × (is (f .command) K.Refresh ≡ false) ⌝ }
-    ensures { λ r. ⌜ StepSays (takeRequest (bare e) clock f (now (body .entry))) (now (out .entry)) (now (out .exit)) r ⌝ }
+    ensures { λ r. ⌜ StepSays (takeRequest (withWordBytes (now (words .entry)) (bare e)) clock f (now (body .entry)))
+        (now (out .entry)) (now (out .exit)) r ⌝ }
 {
     let answer = request_answer(e, f, body);
     if is_dropped(answer) {
@@ -158,14 +151,21 @@ fn take_request(e: Core, clock: u64, f: Fields, body: &[u8], out: &mut [u8]) -> 
     if is(k, Command::Disconnect) {
         return stepped(answer, next, 0);
     }
-    let busy = done & is_busy(e, k);
+    let busy = done & is_busy(e, k, body.len());
     let reply = reply_fields(e, f, busy, is_ended(answer));
-    let count = write_head(head_of(reply), body, out);
+    let count = write_reply(e, words, k, head_of(reply), body, out);
     stepped(answer, next, count)
 }
 
-fn reply_answer(e: Core, f: Fields, body: &[u8]) -> Answer
-    ensures { λ r. ⌜ r ≡ firstOf (replyFaults (bare e) f (now (body .entry))) ⌝ }
+fn is_result(f: Fields) -> bool
+    ensures { λ r. ⌜ r ≡ isResult f ⌝ }
+{
+    let k = f.command;
+    is(k, Command::InvokeFunc) & !f.busy
+}
+
+fn reply_answer(e: Core, words: &[u8], f: Fields, body: &[u8]) -> Answer
+    ensures { λ r. ⌜ r ≡ firstOf (replyFaults (withWordBytes (now (words .entry)) (bare e)) f (now (body .entry))) ⌝ }
 {
     let state = e.state;
     let setup = e.setup;
@@ -175,30 +175,40 @@ fn reply_answer(e: Core, f: Fields, body: &[u8]) -> Answer
     let asked = is_pending(pending);
     let matches = is(k, request_due(e));
     let answers = answers_to(pending, f.timestamp);
-    let data = due_data(e);
-    let equal = is_data(body, data);
+    let n = due_length(e);
+    let result = is_result(f);
+    let equal = is_due(e, words, body);
     first_of(setup_faults(
         !(in_setup & (f.ack & (asked & matches))),
-        body.len() != data.length,
+        body.len() != n,
         !answers,
-        f.error | !equal,
+        f.error | !(result | equal),
     ))
 }
 
-// A reply at a master.
-fn take_reply(e: Core, clock: u64, f: Fields, body: &[u8]) -> Stepped
-    ensures { λ r. ⌜ r ≡ plainStep (takeReply (bare e) clock f (now (body .entry))) ⌝ }
+// A reply at a master. A result goes to the output.
+fn take_reply(e: Core, words: &[u8], clock: u64, f: Fields, body: &[u8], out: &mut [u8]) -> Stepped
+    requires { ⌜ 248 ≤ length (now out) ⌝ }
+    ensures { λ r. ⌜ StepSays (takeReply (withWordBytes (now (words .entry)) (bare e)) clock f (now (body .entry)))
+        (now (out .entry)) (now (out .exit)) r ⌝ }
 {
-    let answer = reply_answer(e, f, body);
-    if is_done(answer) {
-        return stepped(Answer::Done, heard(e, clock, f), 0);
+    let answer = reply_answer(e, words, f, body);
+    if !is_done(answer) {
+        return refused(answer, e);
     }
-    refused(answer, e)
+    let next = heard(e, clock, f);
+    if is_result(f) {
+        let count = copy(body, out);
+        return stepped(Answer::Done, next, count);
+    }
+    stepped(Answer::Done, next, 0)
 }
 
-// A frame of this connection. A slave's request writes its reply.
-pub fn deliver(e: Core, clock: u64, f: Fields, body: &[u8], out: &mut [u8]) -> Stepped
-    ensures { λ r. ⌜ StepSays (withRoom (length (now (out .entry))) (bare e) (deliverOf (bare e) clock f (now (body .entry))))
+// A frame of this connection, whose user's words are held in these bytes. A slave's request writes its reply, and a
+// master's the result of a queued command.
+pub fn deliver(e: Core, words: &[u8], clock: u64, f: Fields, body: &[u8], out: &mut [u8]) -> Stepped
+    ensures { λ r. ⌜ StepSays (withRoom (length (now (out .entry))) (bare e)
+        (deliverOf (withWordBytes (now (words .entry)) (bare e)) clock f (now (body .entry))))
         (now (out .entry)) (now (out .exit)) r ⌝ }
 {
     if out.len() < LONGEST_FRAME {
@@ -215,7 +225,7 @@ pub fn deliver(e: Core, clock: u64, f: Fields, body: &[u8], out: &mut [u8]) -> S
     // A copy for setup, so that on a value's way the core need not stand in memory.
     let setup = e;
     if setup.settings.slave {
-        return take_request(setup, clock, f, body, out);
+        return take_request(setup, words, clock, f, body, out);
     }
-    take_reply(setup, clock, f, body)
+    take_reply(setup, words, clock, f, body, out)
 }

@@ -3,17 +3,22 @@ ghost use mathlib.Core.Path.{_≡_};
 ghost use mathlib.Core.Bool.{false};
 ghost use Rattle.endpoint.specs.Due.{requestDue};
 ghost use Rattle.endpoint.specs.Endpoint.{bare};
+ghost use Rattle.words.specs.Bytes.{same};
 ghost use mathlib.Core.List.{_++_};
 ghost use Prim.Native.Nat.{_≤_};
 ghost use lib.ListN.{length};
 ghost use Rattle.words.specs.Words.{wordBytes};
-ghost use Rattle.steps.specs.Frames.{setupData, dueData, widthOf, sendWidth, showWidth, sentFields, baselineOf};
-ghost use Rattle.steps.specs.Frames.{replyFields};
+ghost use Rattle.steps.specs.Frames.{setupData, dueData, isCount, widthOf, sendWidth, showWidth, sentFields};
+ghost use Rattle.steps.specs.Frames.{baselineOf, replyFields, isPerformed, isBusy, replyData};
 ghost use Rattle.steps.specs.Says.{bytesIn, DataSays};
+ghost use Rattle.steps.specs.Values.{withWordBytes};
 ghost use Rattle.frame.specs.Writing.{HeadSays};
 use super::SetupData;
+use super::queue::padded;
 use endpoint::Core;
 use endpoint::Settings;
+use endpoint::due::is_command_due;
+use endpoint::due::is_held_back;
 use endpoint::due::request_due;
 use endpoint::time::passed;
 use frame::Command;
@@ -21,8 +26,10 @@ use frame::Fields;
 use frame::Head;
 use frame::Subconnection;
 use frame::TIMESTAMP_MODULUS;
+use frame::control::is;
 use frame::write::write_head;
 use words::put_word;
+use words::same;
 
 fn four_words(a: u32, b: u32, c: u32, d: u32) -> [u8; 16]
     ensures { λ r. ⌜ r ≡ wordBytes a ++ (wordBytes b ++ (wordBytes c ++ wordBytes d)) ⌝ }
@@ -60,6 +67,7 @@ pub(crate) fn setup_data(s: Settings, k: Command) -> SetupData
             length: 16,
         },
         Command::VerifyStation => one_word(s.station),
+        Command::InvokeFunc => one_word(0),
         Command::RefreshReady => one_word(0),
         Command::RefreshGo => one_word(0),
         Command::Refresh => one_word(0),
@@ -67,19 +75,17 @@ pub(crate) fn setup_data(s: Settings, k: Command) -> SetupData
     }
 }
 
-// The words that the request due carries.
-pub(crate) fn due_data(e: Core) -> SetupData
-    ensures { λ r. ⌜ DataSays (dueData (bare e)) r ⌝ }
+fn is_count(words: u8) -> bool
+    ensures { λ r. ⌜ r ≡ isCount words ⌝ }
 {
-    let settings = e.settings;
-    setup_data(settings, request_due(e))
+    (1 <= words) & (words <= 25)
 }
 
-// Bytes of a value of so many words.
+// Bytes of so many words.
 fn width(words: u8) -> usize
     ensures { λ r. ⌜ r ≡ widthOf words ⌝ }
 {
-    if (1 <= words) & (words <= 25) {
+    if is_count(words) {
         4 * (words as usize)
     } else {
         4
@@ -132,7 +138,7 @@ pub(crate) fn sent_fields(
 fn baseline_of(k: Command, clock: u64, measured: u64) -> u16
     ensures { λ r. ⌜ r ≡ baselineOf k clock measured ⌝ }
 {
-    if frame::control::is(k, Command::RefreshGo) {
+    if is(k, Command::RefreshGo) {
         return (passed(clock, measured) % 65536) as u16;
     }
     0
@@ -179,4 +185,90 @@ pub(crate) fn write_data(head: Head, carried: SetupData, out: &mut [u8]) -> usiz
     let bytes = carried.bytes;
     let n = carried.length;
     write_head(head, &bytes[..n], out)
+}
+
+// Whether a body is the data of a setup request.
+pub(crate) fn is_data(body: &[u8], due: SetupData) -> bool
+    requires { ⌜ due .length ≤ length (due .bytes) ⌝ }
+    ensures { λ r. ⌜ r ≡ same (now (body .entry)) (bytesIn due) ⌝ }
+{
+    let bytes = due.bytes;
+    let n = due.length;
+    same(body, &bytes[..n])
+}
+
+// ---- the request due: a setup request, or the queued command, whose words are lent
+
+// How many bytes it carries.
+pub(crate) fn due_length(e: Core) -> usize
+    ensures { λ r. ⌜ r ≡ length (dueData (bare e)) ⌝ }
+{
+    if is_command_due(e) {
+        return width(e.words);
+    }
+    let settings = e.settings;
+    let data = setup_data(settings, request_due(e));
+    data.length
+}
+
+// Whether a body is what it carries.
+pub(crate) fn is_due(e: Core, words: &[u8], body: &[u8]) -> bool
+    ensures { λ r. ⌜ r ≡ same (now (body .entry)) (dueData (withWordBytes (now (words .entry)) (bare e))) ⌝ }
+{
+    if is_command_due(e) {
+        let array = padded(words);
+        let n = width(e.words);
+        return same(body, &array[..n]);
+    }
+    let settings = e.settings;
+    is_data(body, setup_data(settings, request_due(e)))
+}
+
+// Writes it.
+pub(crate) fn write_due(e: Core, words: &[u8], head: Head, out: &mut [u8]) -> usize
+    ensures { λ r. ⌜ HeadSays head (dueData (withWordBytes (now (words .entry)) (bare e)))
+        (now (out .entry)) (now (out .exit)) r ⌝ }
+{
+    if is_command_due(e) {
+        let array = padded(words);
+        let n = width(e.words);
+        return write_head(head, &array[..n], out);
+    }
+    let settings = e.settings;
+    write_data(head, setup_data(settings, request_due(e)), out)
+}
+
+// ---- a reply
+
+// Whether S-InvokeFunc with so many bytes has its result.
+fn is_performed(e: Core, k: Command, n: usize) -> bool
+    ensures { λ r. ⌜ r ≡ isPerformed (bare e) k n ⌝ }
+{
+    is(k, Command::InvokeFunc) & (is_count(e.words) & (n == width(e.words)))
+}
+
+pub(crate) fn is_busy(e: Core, k: Command, n: usize) -> bool
+    ensures { λ r. ⌜ r ≡ isBusy (bare e) k n ⌝ }
+{
+    is_held_back(e, k) | (is(k, Command::InvokeFunc) & !is_performed(e, k, n))
+}
+
+// Writes a reply to a request with this body: the result whose words are lent, or the body.
+pub(crate) fn write_reply(
+    e: Core,
+    words: &[u8],
+    k: Command,
+    head: Head,
+    body: &[u8],
+    out: &mut [u8],
+) -> usize
+    ensures { λ r. ⌜ HeadSays head (replyData (withWordBytes (now (words .entry)) (bare e)) k (now (body .entry)))
+        (now (out .entry)) (now (out .exit)) r ⌝ }
+{
+    if is_performed(e, k, body.len()) {
+        let array = padded(words);
+        let n = width(e.words);
+        return write_head(head, &array[..n], out);
+    }
+    write_head(head, body, out)
 }

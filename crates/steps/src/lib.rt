@@ -4,6 +4,7 @@
 pub mod deliver;
 mod frames;
 pub mod lifecycle;
+pub mod queue;
 pub mod send;
 pub mod show;
 pub mod station;

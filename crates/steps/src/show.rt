@@ -1,11 +1,13 @@
 // Show: the last value accepted in this Refresh, or fail-safe.
 ghost use mathlib.Core.Path.{_≡_};
 ghost use Rattle.endpoint.specs.Endpoint.{bare};
+ghost use mathlib.Core.Bool.{cond};
 ghost use mathlib.Core.List.{_++_};
 ghost use Prim.Native.Nat.{_≤_};
+ghost use lib.Dec.{ltb};
 ghost use lib.ListN.{length, take, drop};
 ghost use Rattle.words.specs.Output.{over};
-ghost use Rattle.steps.specs.Calls.{isFailSafe, heldOr};
+ghost use Rattle.steps.specs.Calls.{isFailSafe};
 ghost use Rattle.steps.specs.Says.{ShowSays};
 ghost use Rattle.steps.specs.Values.{withBytes};
 use super::Shown;
@@ -22,17 +24,10 @@ fn is_fail_safe(e: Core) -> bool
     !(is_state(state, State::Refresh) & e.taken)
 }
 
-// The value to show: the fail-safe value, or the one held.
-fn value_of(safe: bool, bytes: [u8; 100]) -> [u8; 100]
-    ensures { λ r. ⌜ (r ≡ heldOr safe bytes) × (length r ≡ 100) ⌝ }
-{
-    if safe { [0; 100] } else { bytes }
-}
-
-// The first n bytes of an array over the front of an output.
-fn copy_out(bytes: [u8; 100], n: usize, out: &mut [u8])
-    requires { ⌜ (n ≤ 100) × (n ≤ length (now out)) ⌝ }
-    ensures { λ _. ⌜ now (out .exit) ≡ take n bytes ++ drop n (now (out .entry)) ⌝ }
+// The first n bytes over the front of an output.
+fn copy_out(bytes: &[u8], n: usize, out: &mut [u8])
+    requires { ⌜ (n ≤ length (now bytes)) × (n ≤ length (now out)) ⌝ }
+    ensures { λ _. ⌜ now (out .exit) ≡ take n (now (bytes .entry)) ++ drop n (now (out .entry)) ⌝ }
 {
     let mut i = 0;
     while i < n {
@@ -41,10 +36,16 @@ fn copy_out(bytes: [u8; 100], n: usize, out: &mut [u8])
     }
 }
 
+fn smaller(a: usize, b: usize) -> usize
+    ensures { λ r. ⌜ r ≡ cond (ltb a b) a b ⌝ }
+{
+    if a < b { a } else { b }
+}
+
 // The value of the other end's last S-Refresh in this Refresh, held in these bytes; else zero bytes of the same width,
 // and the mark.
-pub fn show(e: Core, value: [u8; 100], out: &mut [u8]) -> Shown
-    ensures { λ r. ⌜ ShowSays (withBytes value (bare e)) (now (out .entry)) (now (out .exit)) r ⌝ }
+pub fn show(e: Core, value: &[u8], out: &mut [u8]) -> Shown
+    ensures { λ r. ⌜ ShowSays (withBytes (now (value .entry)) (bare e)) (now (out .entry)) (now (out .exit)) r ⌝ }
 {
     let safe = is_fail_safe(e);
     if out.len() < LONGEST_FRAME {
@@ -55,9 +56,18 @@ pub fn show(e: Core, value: [u8; 100], out: &mut [u8]) -> Shown
     }
     let settings = e.settings;
     let n = show_width(settings);
-    copy_out(value_of(safe, value), n, out);
+    if safe {
+        let zeros = [0u8; 100];
+        copy_out(&zeros, n, out);
+        return Shown {
+            count: n,
+            failsafe: true,
+        };
+    }
+    let k = smaller(value.len(), n);
+    copy_out(value, k, out);
     Shown {
-        count: n,
-        failsafe: safe,
+        count: k,
+        failsafe: false,
     }
 }

@@ -1,5 +1,5 @@
 -- The call that a line is, by the word that it begins with.
-use mathlib.Core.Bool.{Bool, _||_, cond}
+use mathlib.Core.Bool.{Bool, _&&_, _||_, cond}
 use mathlib.Core.List.{List, [], _∷_}
 use Prim.Native.Nat.{ℕ, _-_}
 use Prim.Native.Char.{code}
@@ -14,13 +14,15 @@ use Rattle.text.specs.declared.Line.the-variants as L
 use Rattle.text.specs.declared.Parameter.{Parameter}
 use Rattle.text.specs.declared.Parameter.the-variants as P
 use Rattle.text.specs.declared.parse.Name.{Name}
-use Rattle.text.specs.declared.parse.Name.the-variants.{Load, Timed, Send, Deliver, Check, Set, Unknown}
+use Rattle.text.specs.declared.parse.Name.the-variants.{Load, Timed, Data, Invoke, Deliver, Check, Set, Unknown}
+use Rattle.text.specs.declared.parse.Kind.{Kind}
+use Rattle.text.specs.declared.parse.Kind.the-variants as K
 use Rattle.text.specs.declared.parse.Verb.{Verb}
 use Rattle.text.specs.declared.parse.Pair.{Pair}
 use Rattle.text.specs.declared.parse.Pair.the-variants.{Both, Broken}
 use Rattle.text.specs.declared.number.Number.{Number}
 use Rattle.text.specs.declared.number.Number.the-variants.{Value, Invalid}
-use Rattle.text.specs.Reading.{wordIn, restOf, numberOf, isHex, isFrame, isLoad}
+use Rattle.text.specs.Reading.{wordIn, restOf, numberOf, isHex, isFrame, isWord, wordAt, isLoad}
 
 -- ---- the name that a word is
 -- the bytes of an ASCII text
@@ -36,13 +38,16 @@ names =
     ∷ (bytesOf "check", Check)
     ∷ (bytesOf "room", Set P.Room)
     ∷ (bytesOf "records", Set P.Records)
-    ∷ (bytesOf "send", Send)
+    ∷ (bytesOf "send", Data K.Value)
+    ∷ (bytesOf "invoke", Invoke)
+    ∷ (bytesOf "result", Data K.Result)
     ∷ (bytesOf "start", Timed A.Start)
     ∷ (bytesOf "stop", Timed A.Stop)
     ∷ (bytesOf "restart", Timed A.Restart)
     ∷ (bytesOf "show", Timed A.Show)
     ∷ (bytesOf "notready", Timed A.NotReady)
     ∷ (bytesOf "ready", Timed A.Ready)
+    ∷ (bytesOf "noresult", Timed A.NoResult)
     ∷ []
 
 -- by the first entry that the word is
@@ -68,9 +73,22 @@ unfoldable pub timedOf : Act → Pair → Line
 timedOf act (Both clock entry) = L.Timed act clock entry
 timedOf act Broken = L.Wrong
 
-unfoldable pub sendOf : Pair → Bool → ℕ → Line
-sendOf (Both clock entry) is start = cond is (L.Send clock entry start) L.Wrong
-sendOf Broken is start = L.Wrong
+-- a value has any count of bytes, a result at most 512
+unfoldable pub isData : Kind → List ℕ → Bool
+isData K.Value t = isHex t
+isData K.Result t = isFrame t
+
+unfoldable pub dataLine : Kind → ℕ → ℕ → ℕ → Line
+dataLine K.Value clock entry start = L.Send clock entry start
+dataLine K.Result clock entry start = L.Result clock entry start
+
+unfoldable pub dataOf : Kind → Pair → Bool → ℕ → Line
+dataOf kind (Both clock entry) is start = cond is (dataLine kind clock entry start) L.Wrong
+dataOf kind Broken is start = L.Wrong
+
+unfoldable pub invokeOf : Pair → ℕ → ℕ → Line
+invokeOf (Both clock entry) word start = L.Invoke clock entry word start
+invokeOf Broken word start = L.Wrong
 
 unfoldable pub deliverOf : Number → Bool → ℕ → Line
 deliverOf (Value clock) is start = cond is (L.Deliver clock start) L.Wrong
@@ -91,15 +109,28 @@ setOf p Invalid = L.Wrong
 abbrev pub placeOf : List ℕ → List ℕ → ℕ
 placeOf s t = length s - length t
 
+-- CLOCK ENTRY, and more words after them
+unfoldable pub pairIn : List ℕ → Pair
+pairIn r = pairOf (numberOf (wordIn r)) (numberOf (wordIn (restOf r)))
+
 -- CLOCK ENTRY
 unfoldable pub timedIn : Act → List ℕ → Line
 timedIn act r = timedOf act (pairOf (numberOf (wordIn r)) (numberOf (restOf r)))
 
 -- CLOCK ENTRY HEX
-unfoldable pub sendIn : List ℕ → List ℕ → Line
-sendIn s r =
-    sendOf (pairOf (numberOf (wordIn r)) (numberOf (wordIn (restOf r)))) (isHex (restOf (restOf r)))
-    (placeOf s (restOf (restOf r)))
+unfoldable pub dataIn : Kind → List ℕ → List ℕ → Line
+dataIn kind s r =
+    dataOf kind (pairIn r) (isData kind (restOf (restOf r))) (placeOf s (restOf (restOf r)))
+
+-- WORD HEX, which are t
+unfoldable pub invokeAt : List ℕ → Pair → List ℕ → Line
+invokeAt s pair t =
+    cond (isWord (wordIn t) && isFrame (restOf t))
+    (invokeOf pair (wordAt s (placeOf s t)) (placeOf s (restOf t))) L.Wrong
+
+-- CLOCK ENTRY WORD HEX
+unfoldable pub invokeIn : List ℕ → List ℕ → Line
+invokeIn s r = invokeAt s (pairIn r) (restOf (restOf r))
 
 -- CLOCK HEX
 unfoldable pub deliverIn : List ℕ → List ℕ → Line
@@ -112,7 +143,8 @@ checkIn s r = cond (isFrame r) (L.Check (placeOf s r)) L.Wrong
 unfoldable pub callOf : Name → List ℕ → Line
 callOf Load s = cond (isLoad s) L.Load L.Wrong
 callOf (Timed act) s = timedIn act (restOf s)
-callOf Send s = sendIn s (restOf s)
+callOf (Data kind) s = dataIn kind s (restOf s)
+callOf Invoke s = invokeIn s (restOf s)
 callOf Deliver s = deliverIn s (restOf s)
 callOf Check s = checkIn s (restOf s)
 callOf (Set p) s = setOf p (numberOf (restOf s))

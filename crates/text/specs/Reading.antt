@@ -78,11 +78,16 @@ byteCount s start = (length s - start) / 2
 unfoldable pub bytesFrom : List ℕ → ℕ → List ℕ
 bytesFrom s start = upTo (byteIn s start) (byteCount s start)
 
--- ---- settings words: after `load`, a space and eight digits each
+-- ---- words of 32 bits
+-- exactly eight digits
+unfoldable pub isWord : List ℕ → Bool
+isWord t = eqb (length t) 8 && every isHexDigit t
+
 -- the word whose digits stand at k
 unfoldable pub wordAt : List ℕ → ℕ → ℕ
 wordAt s k = wordOf (byteAt s k) (byteAt s (k + 2)) (byteAt s (k + 4)) (byteAt s (k + 6))
 
+-- ---- settings words: after `load`, a space and eight digits each
 -- the settings word i
 unfoldable pub settingAt : List ℕ → ℕ → ℕ
 settingAt s i = wordAt s (5 + 9 * i)

@@ -6,7 +6,7 @@ ghost use Rattle.words.specs.Output.{put};
 ghost use Rattle.text.specs.Printing.{every, Written};
 ghost use Rattle.text.specs.Reading.{isHexDigit, isHex, isFrame, digitOf, byteAt, upTo, byteIn, byteCount};
 ghost use Rattle.text.specs.Reading.{bytesFrom, wordAt, settingAt, settingCount, settingsIn, isSettingAt};
-ghost use Rattle.text.specs.Reading.{areSettings, isLoad};
+ghost use Rattle.text.specs.Reading.{areSettings, isLoad, isWord};
 use words::word_of;
 
 fn is_hex_digit(b: u8) -> bool
@@ -68,8 +68,15 @@ fn byte_at(s: &[u8], k: usize) -> u8
     16 * digit_of(s[k]) + digit_of(s[k + 1])
 }
 
+// Whether a text is a word: eight digits.
+pub(crate) fn is_word(s: &[u8]) -> bool
+    ensures { λ r. ⌜ r ≡ isWord (now (s .entry)) ⌝ }
+{
+    (s.len() == 8) & are_digits(s)
+}
+
 // The word whose eight digits stand at k.
-fn word_at(s: &[u8], k: usize) -> u32
+pub(crate) fn word_at(s: &[u8], k: usize) -> u32
     requires { ⌜ k + 8 ≤ length (now s) ⌝ }
     ensures { λ r. ⌜ r ≡ wordAt (now (s .entry)) k ⌝ }
 {

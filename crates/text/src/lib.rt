@@ -23,6 +23,8 @@ pub enum Act {
     // The station's user sets 'not ready', and clears it.
     NotReady,
     Ready,
+    // The station's user clears the result.
+    NoResult,
 }
 
 // What a line sets for the calls after it.
@@ -43,6 +45,19 @@ pub enum Line {
         entry: u32,
     },
     Send {
+        clock: u64,
+        entry: u32,
+        start: usize,
+    },
+    // The master's user queues S-InvokeFunc: the command word, and what follows it.
+    Invoke {
+        clock: u64,
+        entry: u32,
+        word: u32,
+        start: usize,
+    },
+    // The station's user sets the result.
+    Result {
         clock: u64,
         entry: u32,
         start: usize,

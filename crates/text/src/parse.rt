@@ -3,14 +3,17 @@ ghost use mathlib.Core.Path.{_≡_};
 ghost use mathlib.Core.List.{map};
 ghost use Prim.Native.Nat.{_≤_};
 ghost use lib.ListN.{length};
-ghost use Rattle.text.specs.Calls.{entryOf, nameIn, nameOf, pairOf, timedOf, sendOf, deliverOf, mostOf, setOf};
-ghost use Rattle.text.specs.Calls.{timedIn, sendIn, deliverIn, checkIn, callOf, lineOf};
+ghost use Rattle.text.specs.Calls.{entryOf, nameIn, nameOf, pairOf, timedOf, dataOf, deliverOf, mostOf, setOf};
+ghost use Rattle.text.specs.Calls.{isData, dataLine, invokeOf, pairIn, timedIn, dataIn, invokeIn, deliverIn};
+ghost use Rattle.text.specs.Calls.{checkIn, callOf, lineOf};
 use super::Act;
 use super::Line;
 use super::Parameter;
 use super::hex::is_frame;
 use super::hex::is_hex;
 use super::hex::is_load;
+use super::hex::is_word;
+use super::hex::word_at;
 use super::number::Number;
 use super::number::number_of;
 use super::word::first;
@@ -18,11 +21,18 @@ use super::word::rest;
 use words::byte_at;
 use words::same;
 
+// What the bytes after CLOCK and ENTRY are.
+pub(crate) enum Kind {
+    Value,
+    Result,
+}
+
 // What the first word of a line names.
 pub(crate) enum Name {
     Load,
     Timed(Act),
-    Send,
+    Data(Kind),
+    Invoke,
     Deliver,
     Check,
     Set(Parameter),
@@ -38,7 +48,7 @@ pub(crate) enum Pair {
 // A word that begins a call, filled up with spaces, and what it names.
 struct Verb([u8; 10], Name);
 
-type Verbs = [Verb; 12];
+type Verbs = [Verb; 15];
 
 const VERBS: Verbs = [
     Verb(*b"load      ", Name::Load),
@@ -46,13 +56,16 @@ const VERBS: Verbs = [
     Verb(*b"check     ", Name::Check),
     Verb(*b"room      ", Name::Set(Parameter::Room)),
     Verb(*b"records   ", Name::Set(Parameter::Records)),
-    Verb(*b"send      ", Name::Send),
+    Verb(*b"send      ", Name::Data(Kind::Value)),
+    Verb(*b"invoke    ", Name::Invoke),
+    Verb(*b"result    ", Name::Data(Kind::Result)),
     Verb(*b"start     ", Name::Timed(Act::Start)),
     Verb(*b"stop      ", Name::Timed(Act::Stop)),
     Verb(*b"restart   ", Name::Timed(Act::Restart)),
     Verb(*b"show      ", Name::Timed(Act::Show)),
     Verb(*b"notready  ", Name::Timed(Act::NotReady)),
     Verb(*b"ready     ", Name::Timed(Act::Ready)),
+    Verb(*b"noresult  ", Name::Timed(Act::NoResult)),
 ];
 
 // The name that a table has for a word: by the first entry that the word is.
@@ -107,20 +120,57 @@ fn timed_of(act: Act, pair: Pair) -> Line
     }
 }
 
-fn send_of(pair: Pair, is: bool, start: usize) -> Line
-    ensures { λ r. ⌜ r ≡ sendOf pair is start ⌝ }
+// Whether a text is bytes of a kind: a value has any count, a result at most 512.
+fn is_data(kind: Kind, s: &[u8]) -> bool
+    ensures { λ r. ⌜ r ≡ isData kind (now (s .entry)) ⌝ }
+{
+    match kind {
+        Kind::Value => is_hex(s),
+        Kind::Result => is_frame(s),
+    }
+}
+
+fn data_line(kind: Kind, clock: u64, entry: u32, start: usize) -> Line
+    ensures { λ r. ⌜ r ≡ dataLine kind clock entry start ⌝ }
+{
+    match kind {
+        Kind::Value => Line::Send {
+            clock,
+            entry,
+            start,
+        },
+        Kind::Result => Line::Result {
+            clock,
+            entry,
+            start,
+        },
+    }
+}
+
+fn data_of(kind: Kind, pair: Pair, is: bool, start: usize) -> Line
+    ensures { λ r. ⌜ r ≡ dataOf kind pair is start ⌝ }
 {
     match pair {
         Pair::Both { clock, entry } => {
             if is {
-                return Line::Send {
-                    clock,
-                    entry,
-                    start,
-                };
+                return data_line(kind, clock, entry, start);
             }
             Line::Wrong
         }
+        Pair::Broken => Line::Wrong,
+    }
+}
+
+fn invoke_of(pair: Pair, word: u32, start: usize) -> Line
+    ensures { λ r. ⌜ r ≡ invokeOf pair word start ⌝ }
+{
+    match pair {
+        Pair::Both { clock, entry } => Line::Invoke {
+            clock,
+            entry,
+            word,
+            start,
+        },
         Pair::Broken => Line::Wrong,
     }
 }
@@ -171,14 +221,37 @@ fn timed_in(act: Act, r: &[u8]) -> Line
     timed_of(act, pair_of(number_of(first(r)), number_of(rest(r))))
 }
 
-fn send_in(line: &[u8], r: &[u8]) -> Line
-    requires { ⌜ length (now r) ≤ length (now line) ⌝ }
-    ensures { λ x. ⌜ x ≡ sendIn (now (line .entry)) (now (r .entry)) ⌝ }
+// CLOCK and ENTRY, where more words follow them.
+fn pair_in(r: &[u8]) -> Pair
+    ensures { λ x. ⌜ x ≡ pairIn (now (r .entry)) ⌝ }
 {
-    let second = rest(r);
-    let third = rest(second);
-    let pair = pair_of(number_of(first(r)), number_of(first(second)));
-    send_of(pair, is_hex(third), line.len() - third.len())
+    pair_of(number_of(first(r)), number_of(first(rest(r))))
+}
+
+fn data_in(kind: Kind, line: &[u8], r: &[u8]) -> Line
+    requires { ⌜ length (now r) ≤ length (now line) ⌝ }
+    ensures { λ x. ⌜ x ≡ dataIn kind (now (line .entry)) (now (r .entry)) ⌝ }
+{
+    let third = rest(rest(r));
+    data_of(
+        kind,
+        pair_in(r),
+        is_data(kind, third),
+        line.len() - third.len(),
+    )
+}
+
+fn invoke_in(line: &[u8], r: &[u8]) -> Line
+    requires { ⌜ length (now r) ≤ length (now line) ⌝ }
+    ensures { λ x. ⌜ x ≡ invokeIn (now (line .entry)) (now (r .entry)) ⌝ }
+{
+    let third = rest(rest(r));
+    let fourth = rest(third);
+    if is_word(first(third)) & is_frame(fourth) {
+        let word = word_at(line, line.len() - third.len());
+        return invoke_of(pair_in(r), word, line.len() - fourth.len());
+    }
+    Line::Wrong
 }
 
 fn deliver_in(line: &[u8], r: &[u8]) -> Line
@@ -218,7 +291,8 @@ fn call_of(name: Name, line: &[u8]) -> Line
             Line::Wrong
         }
         Name::Timed(act) => timed_in(act, r),
-        Name::Send => send_in(line, r),
+        Name::Data(kind) => data_in(kind, line, r),
+        Name::Invoke => invoke_in(line, r),
         Name::Deliver => deliver_in(line, r),
         Name::Check => check_in(line, r),
         Name::Set(p) => set_of(p, number_of(r)),

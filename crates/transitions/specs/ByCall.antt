@@ -8,21 +8,25 @@ use Rattle.endpoint.specs.declared.Settings.{Settings}
 use Rattle.endpoint.specs.declared.State.the-variants.{Close, Starting}
 use Rattle.endpoint.specs.declared.Timestamp.the-variants.{Never}
 use Rattle.endpoint.specs.declared.Pending.the-variants.{Nothing, Asked}
-use Rattle.endpoint.specs.Endpoint.{Endpoint}
+use Rattle.endpoint.specs.declared.Queue.{Queue}
+use Rattle.endpoint.specs.declared.Queue.the-variants.{Empty, Waiting, Closed}
+use Rattle.endpoint.specs.Endpoint.{Endpoint, Words, noBytes, wordsOf}
 use Rattle.endpoint.specs.Due.{requestDue}
 use Rattle.endpoint.specs.Time.{noValue, endedOf, timeOf}
 use Rattle.endpoint.specs.Updates.{endpointOf, inState, timedFrom, withTimestamps, withSent, withPending, withRequests}
-use Rattle.endpoint.specs.Updates.{holding}
+use Rattle.endpoint.specs.Updates.{withQueue, withWords, holding}
 
 -- a connection as loaded
 abbrev pub freshOf : Settings → Endpoint
 freshOf s =
     endpointOf s Close 0 (record { sent = Never; accepted = Never })
-    (record { pending = Nothing; measured = 0; offset = 0; requests = 0 }) (record { notready = false }) noValue
+    (record { pending = Nothing; measured = 0; offset = 0; requests = 0; queue = Empty }) (record { notready = false })
+    (wordsOf 0 noBytes) noValue
 
--- start; the count of requests begins anew
+-- start; the count of requests begins anew, and the queue
 abbrev pub startedOf : Endpoint → ℕ → Endpoint
-startedOf e t = inState Starting (timedFrom t (withRequests 0 (withPending Nothing (holding noValue e))))
+startedOf e t =
+    inState Starting (timedFrom t (withQueue Empty (withRequests 0 (withPending Nothing (holding noValue e)))))
 
 -- restart; what is remembered of timestamps stays, and the count of requests
 abbrev pub restartedOf : Endpoint → Endpoint
@@ -32,10 +36,15 @@ restartedOf e = inState Close (holding noValue e)
 abbrev pub countedOf : Endpoint → Command → ℕ
 countedOf e k = cond (is k K.Disconnect) (e .setup .requests) ((e .setup .requests + 1) % 256)
 
+-- the queue is closed once S-RefreshReady has gone
+abbrev pub queueAfter : Command → Queue → Queue
+queueAfter k q = cond (is k K.RefreshReady) Closed q
+
 -- send: a request with this timestamp
 abbrev pub requestedAt : Endpoint → ℕ → ℕ → Endpoint
 requestedAt e t stamp =
-    timedFrom t (withSent stamp (withRequests (countedOf e (requestDue e)) (withPending (Asked stamp) e)))
+    timedFrom t (withSent stamp (withQueue (queueAfter (requestDue e) (e .setup .queue))
+    (withRequests (countedOf e (requestDue e)) (withPending (Asked stamp) e))))
 
 -- the same, with the endpoint's time
 abbrev pub requestedOf : Endpoint → ℕ → Endpoint
@@ -54,3 +63,7 @@ stoppedAt e stamp =
 -- the same, with the endpoint's time
 abbrev pub stoppedOf : Endpoint → ℕ → Endpoint
 stoppedOf e t = stoppedAt e (timeOf e t)
+
+-- invoke: a command of these words waits
+abbrev pub queuedOf : Endpoint → Words → Endpoint
+queuedOf e w = withQueue Waiting (withWords w e)

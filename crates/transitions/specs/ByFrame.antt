@@ -7,11 +7,13 @@ use Rattle.frame.specs.declared.Command.the-variants as K
 use Rattle.frame.specs.declared.Fields.{Fields}
 use Rattle.frame.specs.Control.{is}
 use Rattle.endpoint.specs.declared.Pending.the-variants.{Nothing}
+use Rattle.endpoint.specs.declared.Queue.the-variants.{Empty}
 use Rattle.endpoint.specs.Endpoint.{Endpoint}
 use Rattle.endpoint.specs.Table.{nextOf, stateTo}
-use Rattle.endpoint.specs.Due.{requestDue, isBusy}
+use Rattle.endpoint.specs.Due.{isCommandDue, requestDue, isHeldBack}
 use Rattle.endpoint.specs.Time.{offsetFrom, noValue, endedOf}
-use Rattle.endpoint.specs.Updates.{inState, timedFrom, withAccepted, withPending, withMeasured, withOffset, holding}
+use Rattle.endpoint.specs.Updates.{inState, timedFrom, withAccepted, withPending, withMeasured, withOffset, withQueue}
+use Rattle.endpoint.specs.Updates.{holding}
 
 -- ---- S-Refresh, at either end
 abbrev pub refreshedOf : Endpoint → ℕ → ℕ → List ℕ → Endpoint
@@ -39,13 +41,14 @@ advancedOf e t f =
     (timedFrom t (withAccepted (f .timestamp)
     (withMeasured (measuredBy (f .command) t (e .setup .measured)) (withOffset (offsetBy e f) (holding noValue e)))))
 
--- a Busy reply: its state stays, s2 too; the timestamp counts as accepted, and the timer runs from the reply (001: ST26, ST30, ST33)
+-- a station that is not ready: its state stays, s2 too; the timestamp counts as accepted, and the timer runs from the
+-- Busy reply (001: ST26, ST30, ST33)
 abbrev pub deferredOf : Endpoint → ℕ → Fields → Endpoint
 deferredOf e t f = timedFrom t (withAccepted (f .timestamp) e)
 
--- what a request that is done leaves once it has its reply
+-- what a request that is done leaves once it has its reply; S-InvokeFunc's leads on with Busy too
 abbrev pub answeredOf : Endpoint → ℕ → Fields → Endpoint
-answeredOf e t f = cond (isBusy e (f .command)) (deferredOf e t f) (advancedOf e t f)
+answeredOf e t f = cond (isHeldBack e (f .command)) (deferredOf e t f) (advancedOf e t f)
 
 -- what a request that is done leaves
 abbrev pub takenOf : Endpoint → ℕ → Fields → Endpoint
@@ -64,6 +67,10 @@ confirmedOf e t =
 abbrev pub dueAgainOf : Endpoint → ℕ → Endpoint
 dueAgainOf e t = timedFrom t (withPending Nothing e)
 
+-- the queued command has its reply and waits no longer: the state stays
+abbrev pub performedOf : Endpoint → ℕ → Endpoint
+performedOf e t = timedFrom t (withPending Nothing (withQueue Empty e))
+
 -- what a reply that is done leaves
 abbrev pub heardOf : Endpoint → ℕ → Fields → Endpoint
-heardOf e t f = cond (f .busy) (dueAgainOf e t) (confirmedOf e t)
+heardOf e t f = cond (f .busy) (dueAgainOf e t) (cond (isCommandDue e) (performedOf e t) (confirmedOf e t))

@@ -1,10 +1,12 @@
 // What a user's call that is done leaves: each step is what it changes.
 ghost use mathlib.Core.Path.{_≡_};
-ghost use Rattle.endpoint.specs.Endpoint.{bare, coreOf};
-ghost use Rattle.endpoint.specs.Updates.{withNotReady};
-ghost use Rattle.transitions.specs.ByCall.{freshOf, startedOf, restartedOf, countedOf, requestedAt, stoppedAt};
+ghost use Rattle.endpoint.specs.Endpoint.{noBytes, wordsOf, bare, coreOf};
+ghost use Rattle.endpoint.specs.Updates.{withWords, withNotReady};
+ghost use Rattle.transitions.specs.ByCall.{freshOf, startedOf, restartedOf, countedOf, queueAfter, requestedAt};
+ghost use Rattle.transitions.specs.ByCall.{stoppedAt, queuedOf};
 use endpoint::Core;
 use endpoint::Pending;
+use endpoint::Queue;
 use endpoint::Settings;
 use endpoint::Setup;
 use endpoint::State;
@@ -15,6 +17,7 @@ use endpoint::due::request_due;
 use endpoint::time::ended;
 use endpoint::updates::in_state;
 use endpoint::updates::with_pending;
+use endpoint::updates::with_queue;
 use endpoint::updates::with_sent;
 use frame::Command;
 use frame::control::is;
@@ -36,8 +39,10 @@ pub fn fresh(s: Settings) -> Core
             measured: 0,
             offset: 0,
             requests: 0,
+            queue: Queue::Empty,
         },
         station: Station { notready: false },
+        words: 0,
         taken: false,
     }
 }
@@ -45,7 +50,8 @@ pub fn fresh(s: Settings) -> Core
 pub fn started(e: Core, clock: u64) -> Core
     ensures { λ r. ⌜ r ≡ coreOf (startedOf (bare e) clock) ⌝ }
 {
-    let mut next = in_state(State::Starting, with_pending(Pending::Nothing, e));
+    let idle = with_queue(Queue::Empty, with_pending(Pending::Nothing, e));
+    let mut next = in_state(State::Starting, idle);
     next.since = clock;
     next.setup.requests = 0;
     next.taken = false;
@@ -70,12 +76,26 @@ fn counted(e: Core, k: Command) -> u8
     std::num::wrapping_add_u8(e.setup.requests, 1)
 }
 
+// The queue once this command has gone.
+fn queue_after(k: Command, queue: Queue) -> Queue
+    ensures { λ r. ⌜ r ≡ queueAfter k queue ⌝ }
+{
+    if is(k, Command::RefreshReady) {
+        return Queue::Closed;
+    }
+    queue
+}
+
 // A request with this timestamp has been sent.
 pub fn requested(e: Core, clock: u64, stamp: u64) -> Core
     ensures { λ r. ⌜ r ≡ coreOf (requestedAt (bare e) clock stamp) ⌝ }
 {
-    let requests = counted(e, request_due(e));
-    let mut next = with_sent(stamp, with_pending(Pending::Asked(stamp), e));
+    let setup = e.setup;
+    let queue = setup.queue;
+    let k = request_due(e);
+    let requests = counted(e, k);
+    let asked = with_sent(stamp, with_pending(Pending::Asked(stamp), e));
+    let mut next = with_queue(queue_after(k, queue), asked);
     next.since = clock;
     next.setup.requests = requests;
     next
@@ -99,5 +119,23 @@ pub fn with_not_ready(e: Core, notready: bool) -> Core
 {
     let mut next = e;
     next.station.notready = notready;
+    next
+}
+
+// A command of so many words waits; its bytes are kept by the caller.
+pub fn queued(e: Core, count: u8) -> Core
+    ensures { λ r. ⌜ r ≡ coreOf (queuedOf (bare e) (wordsOf count noBytes)) ⌝ }
+{
+    let mut next = with_queue(Queue::Waiting, e);
+    next.words = count;
+    next
+}
+
+// A station's result of so many words, 0 for none; its bytes are kept by the caller.
+pub fn with_result(e: Core, count: u8) -> Core
+    ensures { λ r. ⌜ r ≡ coreOf (withWords (wordsOf count noBytes) (bare e)) ⌝ }
+{
+    let mut next = e;
+    next.words = count;
     next
 }

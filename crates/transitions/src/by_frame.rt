@@ -2,10 +2,13 @@
 ghost use mathlib.Core.Path.{_≡_};
 ghost use Rattle.endpoint.specs.Endpoint.{noBytes, bare, coreOf};
 ghost use Rattle.transitions.specs.ByFrame.{refreshedOf, endedBy, measuredBy, offsetBy, advancedOf};
-ghost use Rattle.transitions.specs.ByFrame.{deferredOf, answeredOf, takenOf, confirmedOf, dueAgainOf, heardOf};
+ghost use Rattle.transitions.specs.ByFrame.{deferredOf, answeredOf, takenOf, confirmedOf, dueAgainOf};
+ghost use Rattle.transitions.specs.ByFrame.{performedOf, heardOf};
 use endpoint::Core;
 use endpoint::Pending;
-use endpoint::due::is_busy;
+use endpoint::Queue;
+use endpoint::due::is_command_due;
+use endpoint::due::is_held_back;
 use endpoint::due::request_due;
 use endpoint::table::next_state;
 use endpoint::table::state_to;
@@ -14,6 +17,7 @@ use endpoint::time::offset_from;
 use endpoint::updates::in_state;
 use endpoint::updates::with_accepted;
 use endpoint::updates::with_pending;
+use endpoint::updates::with_queue;
 use frame::Command;
 use frame::Fields;
 use frame::control::is;
@@ -84,7 +88,7 @@ fn answered(e: Core, clock: u64, f: Fields) -> Core
     ensures { λ r. ⌜ r ≡ coreOf (answeredOf (bare e) clock f) ⌝ }
 {
     let k = f.command;
-    if is_busy(e, k) {
+    if is_held_back(e, k) {
         return deferred(e, clock, f);
     }
     advanced(e, clock, f)
@@ -125,12 +129,24 @@ fn due_again(e: Core, clock: u64) -> Core
     again
 }
 
+// The queued command waits no longer; the state stays.
+fn performed(e: Core, clock: u64) -> Core
+    ensures { λ r. ⌜ r ≡ coreOf (performedOf (bare e) clock) ⌝ }
+{
+    let mut next = with_pending(Pending::Nothing, with_queue(Queue::Empty, e));
+    next.since = clock;
+    next
+}
+
 // What a reply that is done leaves.
 pub fn heard(e: Core, clock: u64, f: Fields) -> Core
     ensures { λ r. ⌜ r ≡ coreOf (heardOf (bare e) clock f) ⌝ }
 {
     if f.busy {
         return due_again(e, clock);
+    }
+    if is_command_due(e) {
+        return performed(e, clock);
     }
     confirmed(e, clock)
 }

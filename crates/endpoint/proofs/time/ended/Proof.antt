@@ -8,4 +8,5 @@ ended-spec =
     tie.close
     (tie.spec
     (λ c κs. search needs)
-    (λ c. rw (c .in-state .ensures)))
+    (λ c κs. search needs)
+    (λ c. rw (c .in-state .ensures, c .before .with-queue .ensures)))

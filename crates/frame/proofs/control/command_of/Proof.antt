@@ -4,9 +4,10 @@ use borrow.Author.Tests.{ne-eqb}
 use Rattle.frame.proofs.control.command_of.Statement.{statement}
 use Rattle.frame.proofs.control.command_of.Tie as tie
 
-unlisted : tie.Need-returns-7
+unlisted : tie.Need-returns-8
 unlisted c =
-    let c5 = c .before in
+    let c6 = c .before in
+    let c5 = c6 .before in
     let c4 = c5 .before in
     let c3 = c4 .before in
     let c2 = c3 .before in
@@ -17,7 +18,8 @@ unlisted c =
       ne-eqb _ _
           (c4 .if4 .left),
       ne-eqb _ _ (c5 .if5 .left),
-      ne-eqb _ _ (c .if6 .left),
+      ne-eqb _ _ (c6 .if6 .left),
+      ne-eqb _ _ (c .if7 .left),
     )
 
 pub command-of-spec : {M : Type 1} → statement M
@@ -30,4 +32,5 @@ command-of-spec =
     (λ c. rw (c .if4 .taken))
     (λ c. rw (c .if5 .taken))
     (λ c. rw (c .if6 .taken))
+    (λ c. rw (c .if7 .taken))
     unlisted)

@@ -6,6 +6,7 @@ use mathlib.Core.Path.{sym, _∙_}
 use lib.ListN.{length}
 use Rattle.endpoint.specs.declared.Reason.the-variants as R
 use Rattle.steps.specs.Calls.{sendOf}
+use Rattle.steps.specs.Values.{withWordBytes}
 use Rattle.records.specs.Records.{bareOf}
 use Rattle.gateway.specs.Calls.{isShort}
 use Rattle.gateway.specs.Parts.{before}
@@ -18,18 +19,18 @@ returns c =
     let i = c .before in
     let b = i .before .before in
     let a = b .before .before .before .args in
-    refused-moves (a .p) (a .out .now) (sendOf (bareOf (a .p .stored)) (a .p .call .clock) (a .value .now)) false (before (a .p) (isShort (length (a .out .now))) R.Entry)
+    refused-moves (a .p) (a .out .now) (sendOf (withWordBytes (a .t2) (bareOf (a .p .stored))) (a .p .call .clock) (a .value .now)) false (before (a .p) (isShort (length (a .out .now))) R.Entry)
     (b .before2 .result) (c .refused .result) (b .before2 .ensures)
     (sym (i .before .is-done .ensures) ∙ not-true _ (i .if1 .taken)) (c .refused .ensures)
 
 returns-2 : tie.Need-returns-2
 returns-2 c =
     let s = c .before .before .before in
-    let r = s .before .before in
+    let r = s .before .before .before in
     let i = r .before .before in
     let b = i .before .before in
     let a = b .before .before .before .args in
-    acted-moves (a .p) (a .out .now) (λ e. sendOf e (a .p .call .clock) (a .value .now)) (λ x. false) R.Entry (b .before2 .result) (r .core-of .result) _
+    acted-moves (a .p) (a .out .now) (λ e. sendOf (withWordBytes (a .t2) e) (a .p .call .clock) (a .value .now)) (λ x. false) R.Entry (b .before2 .result) (r .core-of .result) _
     (s .send .result) (c .acted .result) (b .before2 .ensures)
     (sym (i .before .is-done .ensures) ∙ not-false _ (i .if1 .left)) (r .core-of .ensures) (s .send .ensures)
     (c .acted .ensures)
@@ -43,6 +44,7 @@ do-send-spec =
     (λ c κs. search needs)
     returns
     (λ c κs. search needs)
+    (λ c. search needs)
     (λ c κs. search needs)
     (λ c κs. search needs)
     (λ c. search needs)

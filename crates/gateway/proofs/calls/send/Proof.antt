@@ -1,20 +1,16 @@
--- `gateway::calls::send` meets its contract: CallBoth of `lent`.
-use mathlib.Core.Path.{refl}
+-- `gateway::calls::send` meets its contract: CallSend of `lent`.
 use mathlib.Core.List.{List}
 use Prim.Native.Nat.{ℕ}
 use lib.ListN.{length}
-use Rattle.steps.specs.Steps as S
 use Rattle.records.specs.declared.Record.{Record}
 use Rattle.gateway.specs.declared.Call.{Call}
 use Rattle.gateway.specs.declared.Called.{Called}
-use Rattle.gateway.specs.declared.Picked.{Picked}
-use Rattle.gateway.specs.declared.Moved.{Moved}
 use Rattle.gateway.specs.Tables.{lent}
 use Rattle.gateway.specs.Calls.{sendIn, OutputSays}
-use Rattle.gateway.proofs.Types.{rec, call, pick as pick-type, move, called, plains}
-use Rattle.gateway.proofs.Parts.{PickSaid, SettleSaid}
-use Rattle.gateway.proofs.Follows.{OutputSaid, output-follows}
-use Rattle.lent.proofs.CallBoth.{call-meets}
+use Rattle.gateway.proofs.Types.{rec, call, pick as pick-type, value, value-plain, move, called, plains}
+use Rattle.gateway.proofs.Parts.{PickSaid, WordsSaid, SettleSaid}
+use Rattle.gateway.proofs.Follows.{SendSaid, send-follows}
+use Rattle.lent.proofs.CallSend.{call-meets}
 use contract.Running.{givenOf, tables, tablesOf}
 use denote.Triple.Spec.{tripleOf}
 use denote.Triple.Table.{entered, cited}
@@ -22,6 +18,10 @@ use Rattle.gateway.proofs.slice.pick as pick
 use Rattle.gateway.proofs.slice.pick.Symbol as pick-def
 use Rattle.gateway.proofs.slice.pick.Symbol.{name as #pick}
 use Rattle.gateway.proofs.slice.pick.Met as pick-thm
+use Rattle.gateway.proofs.slice.words_at as words-at
+use Rattle.gateway.proofs.slice.words_at.Symbol as words-at-def
+use Rattle.gateway.proofs.slice.words_at.Symbol.{name as #words-at}
+use Rattle.gateway.proofs.slice.words_at.Met as words-at-thm
 use Rattle.gateway.proofs.calls.do_send as do-send
 use Rattle.gateway.proofs.calls.do_send.Symbol as do-send-def
 use Rattle.gateway.proofs.calls.do_send.Symbol.{name as #do-send}
@@ -35,27 +35,22 @@ use Rattle.gateway.proofs.calls.send as f
 use Rattle.gateway.proofs.calls.send.Statement as stated
 use Rattle.gateway.proofs.calls.send.Code as code
 
-abbrev ActSaid : Picked → List ℕ → List ℕ → Moved → List ℕ → Type 0
-ActSaid p value out m out′ = OutputSaid (S.send value) refl (λ a. refl) p out m out′
-
 abbrev Then : List Record → Call → List ℕ → List ℕ → Called → List Record → List ℕ → Type 0
 Then ys c value out r zs out′ =
     OutputSays (sendIn (lent (c .gateway) ys) (c .clock) (length out) (c .entry) value) zs out out′ r
-
-follows : (ys : List Record) (c : Call) (value out : List ℕ) (p : Picked) (us : List Record) (m : Moved) (out′ : List ℕ)
-    (r : Called) (zs : List Record)
-    → PickSaid ys c p us → ActSaid p value out m out′ → SettleSaid us m r zs → Then ys c value out r zs out′
-follows ys c value out = output-follows (S.send value) refl (λ a. refl) ys c out
 
 pub send-spec : {M : Type 1} → stated.statement M
 unfolding code.routine tablesOf
 send-spec 𝓤 H 𝓜 𝓖 𝓡 =
     entered 𝓤 H (tripleOf 𝓤 H (𝓖 .A) f.signature (f.spec 𝓤 H (𝓖 .A) (𝓜 .mem) (𝓡 .run)))
     (tables 𝓤 H 𝓜 𝓡 code.env .C) (tables 𝓤 H 𝓜 𝓡 code.env .Λ) #send code.function (code.unfolded 𝓤 H 𝓜 𝓡)
-    (call-meets rec call pick-type move called plains #pick #do-send #settle PickSaid ActSaid SettleSaid Then follows
+    (call-meets rec call pick-type value move called plains value-plain #pick #words-at #do-send #settle PickSaid WordsSaid
+    SendSaid SettleSaid Then send-follows
     𝓤 H (𝓖 .A) (givenOf 𝓤 H 𝓜 𝓖) (tablesOf 𝓤 H 𝓜 (tables 𝓤 H 𝓜 𝓡 code.env))
     (cited 𝓤 H (tripleOf 𝓤 H (𝓖 .A) pick.signature (pick.spec 𝓤 H (𝓖 .A) (𝓜 .mem) (𝓡 .run))) 𝓜 𝓡 code.env #pick
     pick-def.routine code.calls-gateway·slice·pick (pick-thm.met 𝓤 H 𝓜 𝓖 𝓡))
+    (cited 𝓤 H (tripleOf 𝓤 H (𝓖 .A) words-at.signature (words-at.spec 𝓤 H (𝓖 .A) (𝓜 .mem) (𝓡 .run))) 𝓜 𝓡 code.env #words-at
+    words-at-def.routine code.calls-gateway·slice·words-at (words-at-thm.met 𝓤 H 𝓜 𝓖 𝓡))
     (cited 𝓤 H (tripleOf 𝓤 H (𝓖 .A) do-send.signature (do-send.spec 𝓤 H (𝓖 .A) (𝓜 .mem) (𝓡 .run))) 𝓜 𝓡 code.env #do-send
     do-send-def.routine code.calls-gateway·calls·do-send (do-send-thm.met 𝓤 H 𝓜 𝓖 𝓡))
     (cited 𝓤 H (tripleOf 𝓤 H (𝓖 .A) settle.signature (settle.spec 𝓤 H (𝓖 .A) (𝓜 .mem) (𝓡 .run))) 𝓜 𝓡 code.env #settle

@@ -1,13 +1,11 @@
 -- `gateway::calls::set_not_ready` meets its contract: Call of `lent`.
 use mathlib.Core.Path.{refl}
 use mathlib.Core.List.{List}
-use Prim.Native.Nat.{ℕ}
 use Rattle.steps.specs.Steps as S
 use Rattle.records.specs.declared.Record.{Record}
 use Rattle.gateway.specs.declared.Call.{Call}
 use Rattle.gateway.specs.declared.Called.{Called}
 use Rattle.records.specs.Records.{isSet}
-use Rattle.steps.proofs.Quiet.{not-ready-quiet}
 use Rattle.gateway.specs.Tables.{lent}
 use Rattle.gateway.specs.Calls.{setNotReadyIn, CallSays}
 use Rattle.gateway.proofs.Types.{rec, call, pick as pick-type, move, called, plains}
@@ -34,8 +32,8 @@ use Rattle.gateway.proofs.calls.set_not_ready as f
 use Rattle.gateway.proofs.calls.set_not_ready.Statement as stated
 use Rattle.gateway.proofs.calls.set_not_ready.Code as code
 
-abbrev asks : Call → S.Call
-asks c = S.act (S.setNotReady (isSet (c .notready)))
+abbrev asks : Call → S.Act
+asks c = S.setNotReady (isSet (c .notready))
 
 abbrev Then : List Record → Call → Called → List Record → Type 0
 Then ys c r zs = CallSays (setNotReadyIn (lent (c .gateway) ys) (c .clock) (c .entry) (isSet (c .notready))) zs r
@@ -46,8 +44,7 @@ set-not-ready-spec 𝓤 H 𝓜 𝓖 𝓡 =
     entered 𝓤 H (tripleOf 𝓤 H (𝓖 .A) f.signature (f.spec 𝓤 H (𝓖 .A) (𝓜 .mem) (𝓡 .run)))
     (tables 𝓤 H 𝓜 𝓡 code.env .C) (tables 𝓤 H 𝓜 𝓡 code.env .Λ) #set-not-ready code.function (code.unfolded 𝓤 H 𝓜 𝓡)
     (call-meets rec call pick-type move called plains #pick #do-set-not-ready #settle PickSaid
-    (PlainSaid asks (λ x. refl) (λ x a. refl) (λ e u x. not-ready-quiet e (isSet (x .notready)))) SettleSaid Then
-    (plain-follows asks (λ x. refl) (λ x a. refl) (λ e u x. not-ready-quiet e (isSet (x .notready))))
+    (PlainSaid asks (λ x. refl) (λ x. refl)) SettleSaid Then (plain-follows asks (λ x. refl) (λ x. refl))
     𝓤 H (𝓖 .A) (givenOf 𝓤 H 𝓜 𝓖) (tablesOf 𝓤 H 𝓜 (tables 𝓤 H 𝓜 𝓡 code.env))
     (cited 𝓤 H (tripleOf 𝓤 H (𝓖 .A) pick.signature (pick.spec 𝓤 H (𝓖 .A) (𝓜 .mem) (𝓡 .run))) 𝓜 𝓡 code.env #pick
     pick-def.routine code.calls-gateway·slice·pick (pick-thm.met 𝓤 H 𝓜 𝓖 𝓡))

@@ -1,12 +1,10 @@
 -- `gateway::calls::start` meets its contract: Call of `lent`.
 use mathlib.Core.Path.{refl}
 use mathlib.Core.List.{List}
-use Prim.Native.Nat.{ℕ}
 use Rattle.steps.specs.Steps as S
 use Rattle.records.specs.declared.Record.{Record}
 use Rattle.gateway.specs.declared.Call.{Call}
 use Rattle.gateway.specs.declared.Called.{Called}
-use Rattle.steps.proofs.Quiet.{start-quiet}
 use Rattle.gateway.specs.Tables.{lent}
 use Rattle.gateway.specs.Calls.{startIn, CallSays}
 use Rattle.gateway.proofs.Types.{rec, call, pick as pick-type, move, called, plains}
@@ -33,8 +31,8 @@ use Rattle.gateway.proofs.calls.start as f
 use Rattle.gateway.proofs.calls.start.Statement as stated
 use Rattle.gateway.proofs.calls.start.Code as code
 
-abbrev asks : Call → S.Call
-asks c = S.act S.start
+abbrev asks : Call → S.Act
+asks c = S.start
 
 abbrev Then : List Record → Call → Called → List Record → Type 0
 Then ys c r zs = CallSays (startIn (lent (c .gateway) ys) (c .clock) (c .entry)) zs r
@@ -45,8 +43,7 @@ start-spec 𝓤 H 𝓜 𝓖 𝓡 =
     entered 𝓤 H (tripleOf 𝓤 H (𝓖 .A) f.signature (f.spec 𝓤 H (𝓖 .A) (𝓜 .mem) (𝓡 .run)))
     (tables 𝓤 H 𝓜 𝓡 code.env .C) (tables 𝓤 H 𝓜 𝓡 code.env .Λ) #start code.function (code.unfolded 𝓤 H 𝓜 𝓡)
     (call-meets rec call pick-type move called plains #pick #do-start #settle PickSaid
-    (PlainSaid asks (λ x. refl) (λ x a. refl) (λ e u x. start-quiet e u)) SettleSaid Then
-    (plain-follows asks (λ x. refl) (λ x a. refl) (λ e u x. start-quiet e u))
+    (PlainSaid asks (λ x. refl) (λ x. refl)) SettleSaid Then (plain-follows asks (λ x. refl) (λ x. refl))
     𝓤 H (𝓖 .A) (givenOf 𝓤 H 𝓜 𝓖) (tablesOf 𝓤 H 𝓜 (tables 𝓤 H 𝓜 𝓡 code.env))
     (cited 𝓤 H (tripleOf 𝓤 H (𝓖 .A) pick.signature (pick.spec 𝓤 H (𝓖 .A) (𝓜 .mem) (𝓡 .run))) 𝓜 𝓡 code.env #pick
     pick-def.routine code.calls-gateway·slice·pick (pick-thm.met 𝓤 H 𝓜 𝓖 𝓡))

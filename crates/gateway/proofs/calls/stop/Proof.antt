@@ -1,9 +1,7 @@
 -- `gateway::calls::stop` meets its contract: CallOut of `lent`.
-use mathlib.Core.Path.{refl}
 use mathlib.Core.List.{List}
 use Prim.Native.Nat.{ℕ}
 use lib.ListN.{length}
-use Rattle.steps.specs.Steps as S
 use Rattle.records.specs.declared.Record.{Record}
 use Rattle.gateway.specs.declared.Call.{Call}
 use Rattle.gateway.specs.declared.Called.{Called}
@@ -11,7 +9,7 @@ use Rattle.gateway.specs.Tables.{lent}
 use Rattle.gateway.specs.Calls.{stopIn, OutputSays}
 use Rattle.gateway.proofs.Types.{rec, call, pick as pick-type, move, called, plains}
 use Rattle.gateway.proofs.Parts.{PickSaid, SettleSaid}
-use Rattle.gateway.proofs.Follows.{OutputSaid, output-follows}
+use Rattle.gateway.proofs.Follows.{StopSaid, stop-follows}
 use Rattle.lent.proofs.CallOut.{call-meets}
 use contract.Running.{givenOf, tables, tablesOf}
 use denote.Triple.Spec.{tripleOf}
@@ -41,8 +39,7 @@ unfolding code.routine tablesOf
 stop-spec 𝓤 H 𝓜 𝓖 𝓡 =
     entered 𝓤 H (tripleOf 𝓤 H (𝓖 .A) f.signature (f.spec 𝓤 H (𝓖 .A) (𝓜 .mem) (𝓡 .run)))
     (tables 𝓤 H 𝓜 𝓡 code.env .C) (tables 𝓤 H 𝓜 𝓡 code.env .Λ) #stop code.function (code.unfolded 𝓤 H 𝓜 𝓡)
-    (call-meets rec call pick-type move called plains #pick #do-stop #settle PickSaid
-    (OutputSaid (S.act S.stop) refl (λ a. refl)) SettleSaid Then (output-follows (S.act S.stop) refl (λ a. refl))
+    (call-meets rec call pick-type move called plains #pick #do-stop #settle PickSaid StopSaid SettleSaid Then stop-follows
     𝓤 H (𝓖 .A) (givenOf 𝓤 H 𝓜 𝓖) (tablesOf 𝓤 H 𝓜 (tables 𝓤 H 𝓜 𝓡 code.env))
     (cited 𝓤 H (tripleOf 𝓤 H (𝓖 .A) pick.signature (pick.spec 𝓤 H (𝓖 .A) (𝓜 .mem) (𝓡 .run))) 𝓜 𝓡 code.env #pick
     pick-def.routine code.calls-gateway·slice·pick (pick-thm.met 𝓤 H 𝓜 𝓖 𝓡))

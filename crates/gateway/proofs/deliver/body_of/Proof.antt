@@ -5,7 +5,7 @@ use mathlib.Core.Path.{sym, ap, _∙_}
 use Prim.Native.Nat.{ℕ}
 use lib.Seq.{slice}
 use Rattle.frame.specs.declared.Span.{Span}
-use Rattle.steps.specs.Deliveries.{paddedOf}
+use Rattle.steps.specs.Frames.{paddedOf}
 use Rattle.gateway.proofs.BodyPart.{part}
 use Rattle.gateway.proofs.deliver.body_of.Statement.{statement}
 use Rattle.gateway.proofs.deliver.body_of.Tie as tie

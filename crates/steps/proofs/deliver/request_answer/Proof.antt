@@ -5,16 +5,13 @@ use Rattle.steps.proofs.deliver.request_answer.Tie as tie
 
 returns : tie.Need-returns
 returns c =
-    let x = c .before .before .before in
-    let d = x .before in
-    let i = d .before .before in
+    let x = c .before .before in
+    let i = x .before .before in
     rw (
       c .first-of .ensures,
       c .before .setup-faults .ensures,
-      x .is-data .ensures,
-      d .setup-data .ensures .holds,
-      d .setup-data .ensures .counted,
-      d .before .is .ensures,
+      x .is-expected .ensures,
+      x .before .is-width .ensures,
       i .is-above .ensures,
       i .before .is-no .ensures,
       i .before .before .next-state .ensures,
@@ -29,7 +26,6 @@ request-answer-spec =
     (λ c κs. search needs)
     (λ c κs. search needs)
     (λ c κs. search needs)
-    (λ c κs. c .setup-data .ensures .fits)
     (λ c κs. search needs)
     (λ c κs. search needs)
     returns)

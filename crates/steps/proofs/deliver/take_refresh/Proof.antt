@@ -8,7 +8,7 @@ use Rattle.endpoint.specs.Endpoint.{Endpoint, bare, coreOf}
 use Rattle.endpoint.specs.Answers.{leftBy}
 use Rattle.endpoint.specs.Time.{endedOf}
 use Rattle.transitions.specs.ByFrame.{refreshedOf}
-use Rattle.steps.specs.Deliveries.{paddedOf}
+use Rattle.steps.specs.Frames.{paddedOf}
 use Rattle.steps.specs.Says.{steppedOf}
 use Rattle.steps.proofs.Firsts.{is-done}
 use Rattle.steps.proofs.Left.{left-refused}

@@ -12,16 +12,17 @@ use Rattle.endpoint.specs.declared.Answer.{Answer}
 use Rattle.endpoint.specs.declared.Core.{Core}
 use Rattle.endpoint.specs.Endpoint.{Endpoint, bare, coreOf}
 use Rattle.endpoint.specs.Answers.{firstOf, isDone, isDropped, isEnded, leftBy}
-use Rattle.endpoint.specs.Due.{isBusy}
 use Rattle.transitions.specs.ByFrame.{endedBy, takenOf}
 use Rattle.steps.specs.Calls.{outcome}
 use Rattle.steps.specs.Deliveries.{requestFaults, repliedOf, takeRequest}
-use Rattle.steps.specs.Frames.{Written, nothing, frame, replyFields}
+use Rattle.steps.specs.Frames.{Written, nothing, frame, replyFields, isBusy, replyData}
 use Rattle.steps.specs.Says.{steppedOf}
+use Rattle.steps.specs.Values.{withWordBytes}
 use Rattle.steps.proofs.Firsts.{request-width}
+use Rattle.steps.proofs.Handed.{left-core}
 use Rattle.steps.proofs.Left.{left-dropped, left-answered}
 use Rattle.steps.proofs.Outcomes.{quiet-step, loud-step}
-use Rattle.steps.proofs.Whole.{whole, setup-length, reply-writable}
+use Rattle.steps.proofs.Whole.{whole, reply-writable}
 use Rattle.steps.proofs.deliver.take_request.Statement.{statement}
 use Rattle.steps.proofs.deliver.take_request.Tie as tie
 
@@ -45,7 +46,8 @@ module _ (e : Endpoint) (t : ℕ) (f : Fields) (body : List ℕ) (a : Answer) (q
   abbrev reply : Bool → Bool → Written
   reply dropped disconnect =
       cond (dropped || disconnect) nothing
-      (frame (replyFields e f (isDone a && isBusy e (f .command)) (isEnded a)) body)
+      (frame (replyFields e f (isDone a && isBusy e (f .command) (length body)) (isEnded a))
+      (replyData e (f .command) body))
 
   dropped-is : isDropped a ≡ true → takeRequest e t f body ≡ outcome a e nothing
   dropped-is h =
@@ -59,8 +61,8 @@ returns : tie.Need-returns
 returns c =
     let i = c .before in
     let s = i .before .before in
-    let a = s .before .before .before .args in
-    let e = bare (a .e) in
+    let a = s .before .before .before .before .args in
+    let e = withWordBytes (a .words .now) (bare (a .e)) in
     let r = s .request-answer .result in
     quiet-step (a .out .now) (takeRequest e (a .clock) (a .f) (a .body .now)) r e
     (dropped-is e (a .clock) (a .f) (a .body .now) r (s .request-answer .ensures)
@@ -74,15 +76,17 @@ returns-2 c =
     let d = l .before in
     let i = d .before in
     let s = i .before .before in
-    let a = s .before .before .before .args in
-    let e = bare (a .e) in
+    let a = s .before .before .before .before .args in
+    let e = withWordBytes (a .words .now) (bare (a .e)) in
     let r = s .request-answer .result in
     quiet-step (a .out .now) (takeRequest e (a .clock) (a .f) (a .body .now)) r
     (leaves e (a .clock) (a .f) (a .body .now) r (s .request-answer .ensures))
     (answered-is e (a .clock) (a .f) (a .body .now) r (s .request-answer .ensures) true
     (sym (i .before .is-dropped .ensures) ∙ i .if1 .left) (sym (k .is .ensures) ∙ j .if2 .taken))
     (c .stepped2 .ensures ∙ ap (λ (x : Core). steppedOf r x 0)
-    (left-is e (a .clock) (a .f) (a .body .now) r (s .request-answer .ensures) (l .left .ensures) (d .is-done .ensures)))
+    (left-is e (a .clock) (a .f) (a .body .now) r (s .request-answer .ensures)
+    (l .left .ensures ∙ left-core (bare (a .e)) (a .words .now) (a .clock) (a .f) (d .is-done .result))
+    (d .is-done .ensures)))
 
 returns-3 : tie.Need-returns-3
 returns-3 c =
@@ -96,27 +100,29 @@ returns-3 c =
     let d = l .before in
     let i = d .before in
     let s = i .before .before in
-    let t = s .before .before .before in
+    let t = s .before .before .before .before in
     let a = t .args in
-    let e = bare (a .e) in
+    let e = withWordBytes (a .words .now) (bare (a .e)) in
     let x = a .body .now in
+    let y = replyData e (a .f .command) x in
     let r = s .request-answer .result in
     let kept = sym (i .before .is-dropped .ensures) ∙ i .if1 .left in
     let other = sym (k .is .ensures) ∙ j .if2 .left in
     let next = leaves e (a .clock) (a .f) x r (s .request-answer .ensures) in
-    let g = replyFields e (a .f) (isDone r && isBusy e (a .f .command)) (isEnded r) in
+    let g = replyFields e (a .f) (isDone r && isBusy e (a .f .command) (length x)) (isEnded r) in
     let fields : f .reply-fields .result ≡ g =
     f .reply-fields .ensures
     ∙ (λ n. replyFields e (a .f) (d .is-done .ensures n && b .is-busy .ensures n) (f .before .is-ended .ensures n)) in
     let n = request-width e (a .f) x (rw (← s .request-answer .ensures) kept) in
-    loud-step (a .out .now) (takeRequest e (a .clock) (a .f) x) r next g x
+    loud-step (a .out .now) (takeRequest e (a .clock) (a .f) x) r next g y
     (answered-is e (a .clock) (a .f) x r (s .request-answer .ensures) false kept other)
-    (whole g x (a .out .now) (t .pre .0)
-    (reply-writable e (a .clock) (a .f) (isDone r) (isEnded r) (length x) (t .pre .1) other
-    (rw n (setup-length (a .e .settings) (a .f .command))))
-    (rw (h .head-of .ensures, fields) at (w .write-head .ensures)))
-    (c .stepped3 .ensures ∙ ap (λ (y : Core). steppedOf r y (w .write-head .result))
-    (left-is e (a .clock) (a .f) x r (s .request-answer .ensures) (l .left .ensures) (d .is-done .ensures)))
+    (whole g y (a .out .now) (t .pre .0)
+    (reply-writable e (a .clock) (a .f) (isDone r) (isEnded r) x (t .pre .1) other n)
+    (rw (h .head-of .ensures, fields) at (w .write-reply .ensures)))
+    (c .stepped3 .ensures ∙ ap (λ (z : Core). steppedOf r z (w .write-reply .result))
+    (left-is e (a .clock) (a .f) x r (s .request-answer .ensures)
+    (l .left .ensures ∙ left-core (bare (a .e)) (a .words .now) (a .clock) (a .f) (d .is-done .result))
+    (d .is-done .ensures)))
 
 pub take-request-spec : {M : Type 1} → statement M
 take-request-spec =

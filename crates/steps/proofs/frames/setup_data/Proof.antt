@@ -48,6 +48,12 @@ returns-7 c =
     one-word (a .s) (a .k) 0 (rw (c .before .enum-told7 .given .1)) (c .one-word6 .ensures .0)
     (c .one-word6 .ensures .1)
 
+returns-8 : tie.Need-returns-8
+returns-8 c =
+    let a = c .before .before .before .args in
+    one-word (a .s) (a .k) 0 (rw (c .before .enum-told8 .given .1)) (c .one-word7 .ensures .0)
+    (c .one-word7 .ensures .1)
+
 pub setup-data-spec : {M : Type 1} → statement M
 setup-data-spec =
     tie.close
@@ -70,10 +76,13 @@ setup-data-spec =
     (λ c κs. search needs)
     (λ c. search needs)
     (λ c κs. search needs)
+    (λ c. search needs)
+    (λ c κs. search needs)
     returns
     returns-2
     returns-3
     returns-4
     returns-5
     returns-6
-    returns-7)
+    returns-7
+    returns-8)

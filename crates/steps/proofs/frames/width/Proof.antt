@@ -7,6 +7,7 @@ pub width-spec : {M : Type 1} → statement M
 width-spec =
     tie.close
     (tie.spec
+    (λ c κs. search needs)
     (λ c. search needs)
-    (λ c. rw (c .if1 .taken))
-    (λ c. rw (c .if1 .left)))
+    (λ c. rw (← c .before .is-count .ensures, c .if1 .taken))
+    (λ c. rw (← c .before .is-count .ensures, c .if1 .left)))

@@ -10,27 +10,25 @@ use Rattle.steps.proofs.show.copy_out.Statement.{statement}
 use Rattle.steps.proofs.show.copy_out.Tie as tie
 
 abbrev Inv-loop : tie.InvT-loop
-Inv-loop n out₀ bytes i₀ out i = (i ≤ n) × (length bytes ≡ 100) × (length out ≡ length out₀)
-    × (out ≡ take i bytes ++ drop i out₀)
+Inv-loop «bytes» n out₀ i₀ out i = (i ≤ n) × (length out ≡ length out₀) × (out ≡ take i «bytes» ++ drop i out₀)
 
 abbrev μ-loop : tie.MeasureT-loop
-μ-loop n out₀ bytes i₀ out i = n - i
+μ-loop «bytes» n out₀ i₀ out i = n - i
 
 loop-again : tie.Need-loop-again Inv-loop μ-loop
 loop-again c =
-    let l = c .before in
+    let l = c .before .before in
     let a = l .before .args in (
       search needs,
-      search needs,
       simp length-set (omega arith),
-      copy-step (a .t1) (a .out .now) (l .loop .out) (l .loop .i) (l .loop .inv .3) (omega arith) (omega arith),
+      copy-step (a .«bytes» .now) (a .out .now) (l .loop .out) (l .loop .i) (l .loop .inv .2) (omega arith) (omega arith),
     )
 
 returns : tie.Need-returns Inv-loop μ-loop
 returns c =
     let l = c .before in
     let e : l .loop .i ≡ l .before .args .n = omega arith in
-    rw (← e) (l .loop .inv .3)
+    rw (← e) (l .loop .inv .2)
 
 pub copy-out-spec : {M : Type 1} → statement M
 copy-out-spec =
@@ -38,7 +36,7 @@ copy-out-spec =
     (tie.spec
     Inv-loop
     μ-loop
-    (λ c. (search needs, search needs, refl, refl))
+    (λ c. (search needs, refl, refl))
     (λ c. search needs)
     (λ c. search needs)
     (λ c. search needs)

@@ -1,7 +1,7 @@
 -- `text::parse::call_of` meets its contract: each arm is the definition's at its name.
 use mathlib.Core.Path.{sym, ap, _∙_}
 use Rattle.text.specs.declared.parse.Name.{Name}
-use Rattle.text.specs.Calls.{timedIn, sendIn, deliverIn, checkIn, setOf, callOf}
+use Rattle.text.specs.Calls.{timedIn, dataIn, invokeIn, deliverIn, checkIn, setOf, callOf}
 use Rattle.text.specs.Reading.{numberOf}
 use borrow.Author.Needs.{needs}
 use Rattle.text.proofs.parse.call_of.Statement.{statement}
@@ -32,12 +32,12 @@ returns-3 c =
 returns-4 : tie.Need-returns-4
 unfolding callOf
 returns-4 c =
-    let m = c .before in
+    let m = c .before .before in
     let r = m .before .before in
     let s = r .before .before .args .line .now in
-    c .send-in .ensures
-    ∙ ap (sendIn s) (r .rest .ensures .0)
-    ∙ ap (λ (n : Name). callOf n s) (sym (m .enum-told2 .given .1))
+    c .data-in .ensures
+    ∙ ap (dataIn _ s) (r .rest .ensures .0)
+    ∙ ap (λ (n : Name). callOf n s) (sym (m .name2 .given .1))
 
 returns-5 : tie.Need-returns-5
 unfolding callOf
@@ -45,9 +45,9 @@ returns-5 c =
     let m = c .before in
     let r = m .before .before in
     let s = r .before .before .args .line .now in
-    c .deliver-in .ensures
-    ∙ ap (deliverIn s) (r .rest .ensures .0)
-    ∙ ap (λ (n : Name). callOf n s) (sym (m .enum-told3 .given .1))
+    c .invoke-in .ensures
+    ∙ ap (invokeIn s) (r .rest .ensures .0)
+    ∙ ap (λ (n : Name). callOf n s) (sym (m .enum-told2 .given .1))
 
 returns-6 : tie.Need-returns-6
 unfolding callOf
@@ -55,23 +55,33 @@ returns-6 c =
     let m = c .before in
     let r = m .before .before in
     let s = r .before .before .args .line .now in
-    c .check-in .ensures
-    ∙ ap (checkIn s) (r .rest .ensures .0)
-    ∙ ap (λ (n : Name). callOf n s) (sym (m .enum-told4 .given .1))
+    c .deliver-in .ensures
+    ∙ ap (deliverIn s) (r .rest .ensures .0)
+    ∙ ap (λ (n : Name). callOf n s) (sym (m .enum-told3 .given .1))
 
 returns-7 : tie.Need-returns-7
 unfolding callOf
 returns-7 c =
+    let m = c .before in
+    let r = m .before .before in
+    let s = r .before .before .args .line .now in
+    c .check-in .ensures
+    ∙ ap (checkIn s) (r .rest .ensures .0)
+    ∙ ap (λ (n : Name). callOf n s) (sym (m .enum-told4 .given .1))
+
+returns-8 : tie.Need-returns-8
+unfolding callOf
+returns-8 c =
     let m = c .before .before .before in
     let r = m .before .before in
     let s = r .before .before .args .line .now in
     c .set-of .ensures
     ∙ ap (setOf _) (c .before .number-of .ensures ∙ ap numberOf (r .rest .ensures .0))
-    ∙ ap (λ (n : Name). callOf n s) (sym (m .name2 .given .1))
+    ∙ ap (λ (n : Name). callOf n s) (sym (m .name3 .given .1))
 
-returns-8 : tie.Need-returns-8
+returns-9 : tie.Need-returns-9
 unfolding callOf
-returns-8 c = rw (c .enum-told5 .given .1)
+returns-9 c = rw (c .enum-told5 .given .1)
 
 pub call-of-spec : {M : Type 1} → statement M
 call-of-spec =
@@ -91,6 +101,8 @@ call-of-spec =
     (λ c κs. search needs)
     (λ c. search needs)
     (λ c κs. search needs)
+    (λ c. search needs)
+    (λ c κs. search needs)
     (λ c κs. search needs)
     (λ c. search needs)
     returns-2
@@ -99,4 +111,5 @@ call-of-spec =
     returns-5
     returns-6
     returns-7
-    returns-8)
+    returns-8
+    returns-9)

@@ -5,10 +5,13 @@ use Rattle.transitions.proofs.by_call.requested.Tie as tie
 
 returns : tie.Need-returns
 returns c =
-    let p = c .before .before in
+    let q = c .before .before in
+    let p = q .before .before in
     let k = p .before in
     rw (
-      c .before .with-sent .ensures,
+      c .before .with-queue .ensures,
+      q .queue-after .ensures,
+      q .before .with-sent .ensures,
       p .with-pending .ensures,
       k .counted .ensures,
       k .before .request-due .ensures,
@@ -18,6 +21,8 @@ pub requested-spec : {M : Type 1} → statement M
 requested-spec =
     tie.close
     (tie.spec
+    (λ c κs. search needs)
+    (λ c κs. search needs)
     (λ c κs. search needs)
     (λ c κs. search needs)
     (λ c κs. search needs)

@@ -7,13 +7,15 @@ returns : tie.Need-returns
 returns c =
     rw (
       c .before .in-state .ensures,
-      c .before .before .with-pending .ensures,
+      c .before .before .with-queue .ensures,
+      c .before .before .before .with-pending .ensures,
     )
 
 pub started-spec : {M : Type 1} → statement M
 started-spec =
     tie.close
     (tie.spec
+    (λ c κs. search needs)
     (λ c κs. search needs)
     (λ c κs. search needs)
     returns)

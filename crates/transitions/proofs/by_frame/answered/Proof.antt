@@ -9,6 +9,6 @@ answered-spec =
     (tie.spec
     (λ c κs. search needs)
     (λ c κs. search needs)
-    (λ c. rw (c .deferred .ensures, ← c .before .before .is-busy .ensures, c .before .if1 .taken))
+    (λ c. rw (c .deferred .ensures, ← c .before .before .is-held-back .ensures, c .before .if1 .taken))
     (λ c κs. search needs)
-    (λ c. rw (c .advanced .ensures, ← c .before .before .is-busy .ensures, c .before .if1 .left)))
+    (λ c. rw (c .advanced .ensures, ← c .before .before .is-held-back .ensures, c .before .if1 .left)))

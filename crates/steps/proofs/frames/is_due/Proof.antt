@@ -1,0 +1,62 @@
+-- `steps::frames::is_due` meets its contract.
+use borrow.Author.Needs.{needs}
+use Rattle.words.specs.Bytes.{same}
+use mathlib.Core.Path.{_≡_, sym, ap, _∙_}
+use lib.Seq.{length-take-le}
+use Rattle.endpoint.specs.Endpoint.{bare}
+use Rattle.endpoint.specs.Due.{isCommandDue, requestDue}
+use Rattle.steps.specs.Frames.{setupData, handedOver, dueData}
+use Rattle.steps.specs.Values.{withWordBytes}
+use Rattle.steps.proofs.Dispatch.{cond-true, cond-false}
+use Rattle.steps.proofs.Whole.{within-array, front-handed}
+use Rattle.steps.proofs.frames.is_due.Statement.{statement}
+use Rattle.steps.proofs.frames.is_due.Tie as tie
+
+within : tie.Need-array-share-prefix-array
+within c =
+    let a = c .before .before .before .before .before .before .args in
+    within-array (withWordBytes (a .words .now) (bare (a .e)) .words) (c .before .padded .ensures) (c .width .ensures)
+
+slice-aggregate-same : tie.Need-slice-aggregate-same
+slice-aggregate-same c =
+    let n = c .before in
+    sym (length-take-le (n .width .result) (n .before .padded .result) (within n))
+
+returns : tie.Need-returns
+returns c =
+    let n = c .before .before in
+    let p = n .before in
+    let i = p .before in
+    let a = i .before .before .before .before .args in
+    let e = withWordBytes (a .words .now) (bare (a .e)) in
+    c .same .ensures
+    ∙ ap (same (a .body .now)) (front-handed (e .words) (p .padded .ensures) (n .width .ensures)
+    ∙ sym (cond-true (isCommandDue e) (handedOver (e .words)) (setupData (e .settings) (requestDue e))
+    (sym (i .before .is-command-due .ensures) ∙ i .if1 .taken)))
+
+returns-2 : tie.Need-returns-2
+returns-2 c =
+    let d = c .before in
+    let k = d .before in
+    let i = k .before .before in
+    let a = i .before .before .before .before .args in
+    let e = withWordBytes (a .words .now) (bare (a .e)) in
+    rw (c .is-data .ensures, d .setup-data .ensures .holds, k .request-due .ensures)
+    (ap (same (a .body .now)) (sym (cond-false (isCommandDue e) (handedOver (e .words))
+    (setupData (e .settings) (requestDue e)) (sym (i .before .is-command-due .ensures) ∙ i .if1 .left))))
+
+pub is-due-spec : {M : Type 1} → statement M
+is-due-spec =
+    tie.close
+    (tie.spec
+    (λ c κs. search needs)
+    (λ c κs. search needs)
+    (λ c κs. search needs)
+    within
+    slice-aggregate-same
+    (λ c κs. search needs)
+    returns
+    (λ c κs. search needs)
+    (λ c κs. search needs)
+    (λ c κs. c .setup-data .ensures .fits)
+    returns-2)
