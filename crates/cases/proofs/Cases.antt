@@ -10,8 +10,8 @@ use Rattle.frame.specs.Writing.{headBytes, withCheckWord, twice, subBytes, fram
 use Rattle.steps.specs.Frames.{setupData, handedOver}
 use Rattle.settings.specs.Lists.{connectionAt, settingsAt, isConnectionAt, isNewAt, areConnections, isList}
 use Rattle.gateway.specs.Tables.{endpointAt, placeOf, clockStep}
-use Rattle.cases.specs.Cases.{Case, edges, emptyCycles, busyReplies, requestLimits, results, commands}
-use Rattle.cases.specs.Cases.{lentSlices, loadings, fullTable, connections, loadingAll, Hold, CasesHold}
+use Rattle.cases.specs.Cases.{Case, edges, emptyCycles, busyReplies, requestLimits, results, userResults}
+use Rattle.cases.specs.Cases.{commands, commandReplies, lentSlices, loadings, fullTable, connections, loadingAll, Hold, CasesHold}
 
 edges-hold : Hold edges
 unfolding Hold edges controlOf headBytes withCheckWord twice subBytes frameBytes bitStep bitSteps byteStep crcFrom crc
@@ -32,15 +32,23 @@ unfolding Hold requestLimits controlOf settingsAt
 limits-hold = refl
 
 results-hold : Hold results
-unfolding Hold results controlOf setupData handedOver connectionAt settingsAt isConnectionAt isNewAt areConnections
-    isList endpointAt clockStep
+unfolding Hold results controlOf setupData handedOver settingsAt
 results-hold = refl
+
+user-results-hold : Hold userResults
+unfolding Hold userResults connectionAt settingsAt isConnectionAt isNewAt areConnections isList endpointAt clockStep
+user-results-hold = refl
 
 commands-hold : Hold commands
 unfolding Hold commands controlOf hasForm hasCheckWord fieldsIn readingOfCopies readingOf headBytes withCheckWord
-    twice subBytes frameBytes bitStep bitSteps byteStep crcFrom crc setupData handedOver settingsAt endpointAt placeOf
-    clockStep
+    twice bitStep bitSteps byteStep crcFrom crc setupData handedOver settingsAt endpointAt placeOf clockStep
 commands-hold = refl
+
+command-replies-hold : Hold commandReplies
+unfolding Hold commandReplies controlOf hasForm hasCheckWord fieldsIn readingOfCopies readingOf headBytes
+    withCheckWord twice subBytes frameBytes bitStep bitSteps byteStep crcFrom crc setupData handedOver settingsAt
+    endpointAt placeOf clockStep
+command-replies-hold = refl
 
 slices-hold : Hold lentSlices
 unfolding Hold lentSlices controlOf hasForm hasCheckWord fieldsIn readingOfCopies readingOf headBytes withCheckWord
@@ -76,4 +84,6 @@ cases-hold =
     (both _ _ busy-hold
     (both _ _ limits-hold
     (both _ _ results-hold
-    (both _ _ commands-hold (both _ _ slices-hold (both _ _ loadings-hold full-holds)))))))
+    (both _ _ user-results-hold
+    (both _ _ commands-hold
+    (both _ _ command-replies-hold (both _ _ slices-hold (both _ _ loadings-hold full-holds)))))))))

@@ -527,6 +527,7 @@ requestLimits =
     ∷ []
 
 -- ---- note 5
+-- S-InvokeFunc at a slave
 unfoldable pub results : List Case
 results =
     -- no result: Busy, the words repeated; it leads to FuncRunning all the same, and the timer runs from the reply
@@ -570,8 +571,13 @@ results =
     ∷ row (replying (asked false FuncRunning K.RefreshReady word))
     (16 ∷ 0xFCA40000 ∷ 10 ∷ rowOf Terminate ∷ 6000 ∷ 5 ∷ 10 ∷ [])
     ∷ row (replying (askedRight FuncRunning K.VerifyStation)) (11 ∷ 0 ∷ 0 ∷ rowOf FuncRunning ∷ 6000 ∷ 5 ∷ 0 ∷ [])
+    ∷ []
+
+-- what a station's user sets and clears
+unfoldable pub userResults : List Case
+userResults =
     -- a result is set in any state, of 1 to 25 words; a later one replaces it; the timer is not restarted
-    ∷ row (setting (station false Close []) weighed) (0 ∷ 1 ∷ 0 ∷ rowOf Close ∷ 6000 ∷ 0 ∷ 2 ∷ 0x01020304 ∷ [])
+    row (setting (station false Close []) weighed) (0 ∷ 1 ∷ 0 ∷ rowOf Close ∷ 6000 ∷ 0 ∷ 2 ∷ 0x01020304 ∷ [])
     ∷ row (setting (station false ParamVerify weighed) (replicate 100 9))
     (0 ∷ 1 ∷ 0 ∷ rowOf ParamVerify ∷ 6000 ∷ 0 ∷ 25 ∷ 0x09090909 ∷ [])
     -- 0 bytes, 104, or no whole words: 12, and the one before stays; a master's: 11, before 12
@@ -593,8 +599,12 @@ results =
     (0 ∷ 1 ∷ 0 ∷ rowOf Close ∷ 6000 ∷ 0 ∷ 2 ∷ 0x01020304 ∷ [])
     ∷ row (handed (endpointAt (loadedOf (listOf 0x30000421) (recordOf (station false Close weighed) ∷ []) .lent) 0))
     (0 ∷ 0 ∷ 0 ∷ [])
+    -- and no command waits at a master that is loaded
+    ∷ row (handed (endpointAt (loadedOf (listOf 0x30000021) (recordOf (waiting ParamVerify) ∷ []) .lent) 0))
+    (0 ∷ 0 ∷ 0 ∷ [])
     ∷ []
 
+-- S-InvokeFunc's form, and a command that a master's user queues, until it is sent
 unfoldable pub commands : List Case
 commands =
     -- CTRL of the request, of its reply and of its Busy reply; Busy in a request: 7; the next Cmd is unlisted
@@ -628,9 +638,14 @@ commands =
     (0 ∷ 0x02000000 ∷ 1010 ∷ rowOf Establish ∷ 1 ∷ 1010 ∷ 1 ∷ wordBytes 7)
     ∷ row (commanding (sendOf (waiting ParamVerify) 1010 []))
     (0 ∷ 0x03000000 ∷ 1010 ∷ rowOf ParamVerify ∷ 1 ∷ 1010 ∷ 1 ∷ tare)
+    ∷ []
+
+-- its reply, and its end
+unfoldable pub commandReplies : List Case
+commandReplies =
     -- its reply without Busy: the words go to the output, whatever they are; the setup does not advance, m2 is not
     -- fixed, and nothing waits
-    ∷ row (hearingIn (answered false false 1010 weighed))
+    row (hearingIn (answered false false 1010 weighed))
     (0 ∷ 1 ∷ 8 ∷ rowOf ParamVerify ∷ 1030 ∷ 5 ∷ 0 ∷ 0 ∷ weighed)
     ∷ row (hearingIn (deliverIn (alone commanded) 1030 248 resultBytes))
     (0 ∷ 1 ∷ 8 ∷ rowOf ParamVerify ∷ 1030 ∷ 5 ∷ 0 ∷ 0 ∷ weighed)
@@ -731,7 +746,7 @@ fullTable = row (loadingAll 64) (0 ∷ 64 ∷ 0x013F803F ∷ []) ∷ []
 abbrev pub cases : List Case
 cases =
     edges ++ (emptyCycles ++ (busyReplies ++ (requestLimits
-    ++ (results ++ (commands ++ (lentSlices ++ (loadings ++ fullTable)))))))
+    ++ (results ++ (userResults ++ (commands ++ (commandReplies ++ (lentSlices ++ (loadings ++ fullTable)))))))))
 
 -- each row gives what the paper states
 unfoldable pub Hold : List Case → Type 0
