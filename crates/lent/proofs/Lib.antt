@@ -6,8 +6,9 @@ pub mod Plain
 pub mod Field
 -- A slice that is lent on, and comes back.
 pub mod Again
--- One field of one record: read by its place, found by a test, overwritten.
+-- One field of one record: read by its place, found by a test, overwritten; two read by its place.
 pub mod PickField
+pub mod PickBoth
 pub mod SeekField
 pub mod PutField
 -- The first records made anew.
