@@ -46,6 +46,15 @@ extern "C" {
 /* A value has 1 to 25 words of 4 bytes; so have S-InvokeFunc's request and its result. */
 #define FOLDERPINK_VALUE_MAX 100
 
+/*
+ * An error record is handed over as it is encoded, in 16 to 56 bytes: date and time, two decimal
+ * digits a byte (the year in two bytes, month, day, hour, minute, second, and the day of the week,
+ * 0 to 6); a word with the count of details, 0 to 10; the details, a word each; and a word that is
+ * 1 where more error records follow, else 0. A word is 4 bytes, the highest first.
+ */
+#define FOLDERPINK_ERROR_RECORD_MIN 16
+#define FOLDERPINK_ERROR_RECORD_MAX 56
+
 /* The most connections of a gateway, and how many words of the settings list each has. */
 #define FOLDERPINK_CONNECTIONS_MAX 64
 #define FOLDERPINK_CONNECTION_WORDS 7
@@ -63,7 +72,7 @@ extern "C" {
 /*
  * The answers. Where several apply, the first in this order is given: 1; 2 for too few records;
  * then all timers are tested (the clock step); 2 for an output that is too short; 3, or 4 to 8; 9;
- * 10 and so on, 19 after 12. A loading knows 18 and 2 only.
+ * 10 and so on, 20 before 12 and 19 after it. A loading knows 18 and 2 only.
  *
  * From 9 on, 18 apart, and with 0 (load and a delivery of 0 bytes apart) the connection is named.
  * Loading apart, 1, and 2 for too few records, change nothing. All others leave what the clock
@@ -111,7 +120,10 @@ enum folderpink_number {
     /* echo: the frame is one's own. */
     FOLDERPINK_ECHO = 10,
 
-    /* turn: not allowed in this state, nothing due, or a call of the other role. */
+    /*
+     * turn: not allowed in this state, nothing due, or a call of the other role; S-ReadErrorInfo
+     * where no error record is set.
+     */
     FOLDERPINK_TURN = 11,
 
     /* width: a value, a command, a result or S-Data of the wrong length. */
@@ -136,10 +148,16 @@ enum folderpink_number {
     FOLDERPINK_SETTINGS = 18,
 
     /* exhausted: a master's request would be number 46 since its start; ends the connection. */
-    FOLDERPINK_EXHAUSTED = 19
+    FOLDERPINK_EXHAUSTED = 19,
+
+    /*
+     * record: not an error record, as its length or a digit, date, count or flag is out of range;
+     * the connection stays.
+     */
+    FOLDERPINK_RECORD = 20
 };
 
-/* The states of a connection; above 8 is Terminate too. */
+/* The states of a connection; above 9 is Terminate too. */
 enum folderpink_state {
     FOLDERPINK_CLOSE = 0,
     FOLDERPINK_STARTING = 1, /* a master's, before its first reply */
@@ -149,10 +167,14 @@ enum folderpink_state {
     FOLDERPINK_FUNC_RUNNING = 5, /* a slave's, from its first S-InvokeFunc on */
     FOLDERPINK_REFRESH_PENDING = 6,
     FOLDERPINK_REFRESH = 7,
-    FOLDERPINK_TERMINATE = 8
+    FOLDERPINK_TERMINATE = 8,
+    FOLDERPINK_TERMINATE_MORE = 9 /* a slave's, while more error records follow */
 };
 
-/* All that a connection keeps, but for its value and its words. A flag is 0, or set. */
+/*
+ * All that a connection keeps, but for its value, its words and its error record. A flag is 0, or
+ * set.
+ */
 struct folderpink_stored {
     uint64_t since; /* the clock reading where the timer starts */
 
@@ -175,25 +197,31 @@ struct folderpink_stored {
     uint8_t hassent;
     uint8_t hasaccepted;
     uint8_t hasasked;
-    uint8_t requests; /* setup requests written since the last start or loading */
-    uint8_t queue;    /* a master's: 0 nothing waits, 1 a command waits; else it is closed:
-                         S-RefreshReady has gone since the last start */
-    uint8_t notready; /* a flag: what set_not_ready set */
-    uint8_t words;    /* how many words were handed over: a slave's result, 0 for none; a master's
-                         command, where one waits */
-    uint8_t taken;    /* a flag: a value was accepted in this Refresh */
+    uint8_t requests;  /* setup requests written since the last start or loading */
+    uint8_t queue;     /* a master's: 0 nothing waits; 1 S-InvokeFunc, 2 S-ReadErrorInfo,
+                          3 S-WriteErrorInfo waits; else it is closed: S-RefreshReady has gone
+                          since the last start */
+    uint8_t invoked;   /* a flag, a master's: S-InvokeFunc has gone since the last start */
+    uint8_t notready;  /* a flag: what set_not_ready set */
+    uint8_t words;     /* how many words were handed over: a slave's result, 0 for none; a master's
+                          command, where one waits */
+    uint8_t errorinfo; /* how many words of an error record were handed over: a slave's, 0 for
+                          none; a master's, where S-WriteErrorInfo waits */
+    uint8_t taken;     /* a flag: a value was accepted in this Refresh */
 };
 
 /*
  * A connection's record. Its value is the last one accepted in this Refresh, with zeros after it,
  * or the fail-safe value, all zeros. Use folderpink_show to read it: only a call tests the timers.
- * The first stored.words of its words are a slave's result, or the command that waits at a master.
- * Bytes between the fields and after them have no meaning.
+ * The first stored.words of its words are a slave's result, or the command that waits at a master;
+ * the first stored.errorinfo words of its errorinfo are a slave's error record, or the one that
+ * waits at a master. Bytes between the fields and after them have no meaning.
  */
 struct folderpink_record {
     struct folderpink_stored stored;
     uint8_t value[FOLDERPINK_VALUE_MAX];
     uint8_t words[FOLDERPINK_VALUE_MAX];
+    uint8_t errorinfo[FOLDERPINK_ERROR_RECORD_MAX];
 };
 
 /* What a gateway keeps beside the records. All zeros: never loaded, a table of no connections. */
@@ -276,17 +304,57 @@ struct folderpink_told folderpink_clear_result(struct folderpink_call *call,
                                                size_t records_length);
 
 /*
+ * A slave's user sets the station's error record, in any state: 16 to 56 bytes, as it is encoded;
+ * else 20, and an earlier one stays. It is the reply to every S-ReadErrorInfo, until it is cleared,
+ * replaced or unset by loading. With none set there is no reply (11), and the master's timer ends
+ * its start.
+ */
+struct folderpink_told folderpink_set_record(struct folderpink_call *call,
+                                             struct folderpink_record *records,
+                                             size_t records_length, const uint8_t *bytes,
+                                             size_t bytes_length);
+
+/* A slave's user clears the error record, in any state; done where none is set, too. */
+struct folderpink_told folderpink_clear_record(struct folderpink_call *call,
+                                               struct folderpink_record *records,
+                                               size_t records_length);
+
+/*
  * A master's user queues a command for the station, a tare for example (S-InvokeFunc): call.word,
  * and 0 to 24 further words. Nothing is sent by this call: send writes the command where
  * S-RefreshReady would be due, again after each Busy reply, and S-RefreshReady once it is
  * answered. Each counts among the 45 requests of a start. The command waits until its reply
  * without Busy, whose words deliver writes, or until the connection's end, which drops it.
- * 11: not a master in setup (from start on, before Refresh), a command waits already, or
- * S-RefreshReady has gone since the last start. 12: not 0 to 24 whole words.
+ * 11: not a master in setup (from start on, before Refresh), a command waits already (read_error
+ * and write_error queue one too), or S-RefreshReady has gone since the last start. 12: not 0 to 24
+ * whole words.
  */
 struct folderpink_told folderpink_invoke(struct folderpink_call *call,
                                          struct folderpink_record *records, size_t records_length,
                                          const uint8_t *bytes, size_t bytes_length);
+
+/*
+ * A master's user queues the reading of the station's error record (S-ReadErrorInfo), as invoke
+ * queues a command; it is never answered Busy. Its reply is the error record, which deliver writes:
+ * 16 to 56 bytes, as it is encoded. A reply that is none is refused (20), and the request stays
+ * pending. 11: as invoke, and once S-InvokeFunc has gone since the last start.
+ */
+struct folderpink_told folderpink_read_error(struct folderpink_call *call,
+                                             struct folderpink_record *records,
+                                             size_t records_length);
+
+/*
+ * A master's user queues an error record for the station (S-WriteErrorInfo), as invoke queues a
+ * command: 16 to 56 bytes, as it is encoded, else 20; 11 as invoke. The station's reply repeats it,
+ * never with Busy; a master's deliver writes nothing of it, a slave's all of it: out[0] is 0xFB,
+ * and the error record is the count / 2 - 24 bytes from out[20] on. The station is in Terminate
+ * then, and takes further ones while the last that it took says that more follow. The master is
+ * still in setup: queue the next, or stop, else its timer ends the start.
+ */
+struct folderpink_told folderpink_write_error(struct folderpink_call *call,
+                                              struct folderpink_record *records,
+                                              size_t records_length, const uint8_t *bytes,
+                                              size_t bytes_length);
 
 /* To Terminate, from any state but Close and Terminate; a master's writes S-Disconnect. */
 struct folderpink_told folderpink_stop(struct folderpink_call *call,
@@ -313,9 +381,10 @@ struct folderpink_told folderpink_send(struct folderpink_call *call,
 /*
  * Takes what a cycle of the bus brought: a frame, or 0 bytes for nothing, which takes the clock
  * step alone. What is written at a slave is its reply, to be sent. At a master it is the result of
- * the command that was queued, count / 4 words for the user, NOT to be sent: a master's deliver
- * never writes a frame. The count does not tell the two apart; the role of the connection that is
- * named does (stored.slave of records[told.entry], or the caller's own list).
+ * the command that was queued, count / 4 words for the user, or the station's error record (16 to
+ * 56 bytes, after read_error), NOT to be sent: a master's deliver never writes a frame. The count
+ * does not tell a frame from these; the role of the connection that is named does (stored.slave
+ * of records[told.entry], or the caller's own list).
  */
 struct folderpink_told folderpink_deliver(struct folderpink_call *call,
                                           struct folderpink_record *records, size_t records_length,
@@ -342,7 +411,7 @@ uint8_t folderpink_check_frame(const uint8_t *bytes, size_t length);
 
 FOLDERPINK_LAYOUT(sizeof(size_t) == 8);
 
-FOLDERPINK_LAYOUT(sizeof(struct folderpink_stored) == 80);
+FOLDERPINK_LAYOUT(sizeof(struct folderpink_stored) == 88);
 FOLDERPINK_LAYOUT(FOLDERPINK_ALIGN(struct folderpink_stored) == 8);
 FOLDERPINK_LAYOUT(offsetof(struct folderpink_stored, since) == 0);
 FOLDERPINK_LAYOUT(offsetof(struct folderpink_stored, interval) == 8);
@@ -364,15 +433,18 @@ FOLDERPINK_LAYOUT(offsetof(struct folderpink_stored, hasaccepted) == 73);
 FOLDERPINK_LAYOUT(offsetof(struct folderpink_stored, hasasked) == 74);
 FOLDERPINK_LAYOUT(offsetof(struct folderpink_stored, requests) == 75);
 FOLDERPINK_LAYOUT(offsetof(struct folderpink_stored, queue) == 76);
-FOLDERPINK_LAYOUT(offsetof(struct folderpink_stored, notready) == 77);
-FOLDERPINK_LAYOUT(offsetof(struct folderpink_stored, words) == 78);
-FOLDERPINK_LAYOUT(offsetof(struct folderpink_stored, taken) == 79);
+FOLDERPINK_LAYOUT(offsetof(struct folderpink_stored, invoked) == 77);
+FOLDERPINK_LAYOUT(offsetof(struct folderpink_stored, notready) == 78);
+FOLDERPINK_LAYOUT(offsetof(struct folderpink_stored, words) == 79);
+FOLDERPINK_LAYOUT(offsetof(struct folderpink_stored, errorinfo) == 80);
+FOLDERPINK_LAYOUT(offsetof(struct folderpink_stored, taken) == 81);
 
-FOLDERPINK_LAYOUT(sizeof(struct folderpink_record) == 280);
+FOLDERPINK_LAYOUT(sizeof(struct folderpink_record) == 344);
 FOLDERPINK_LAYOUT(FOLDERPINK_ALIGN(struct folderpink_record) == 8);
 FOLDERPINK_LAYOUT(offsetof(struct folderpink_record, stored) == 0);
-FOLDERPINK_LAYOUT(offsetof(struct folderpink_record, value) == 80);
-FOLDERPINK_LAYOUT(offsetof(struct folderpink_record, words) == 180);
+FOLDERPINK_LAYOUT(offsetof(struct folderpink_record, value) == 88);
+FOLDERPINK_LAYOUT(offsetof(struct folderpink_record, words) == 188);
+FOLDERPINK_LAYOUT(offsetof(struct folderpink_record, errorinfo) == 288);
 
 FOLDERPINK_LAYOUT(sizeof(struct folderpink_gateway) == 16);
 FOLDERPINK_LAYOUT(FOLDERPINK_ALIGN(struct folderpink_gateway) == 8);

@@ -48,6 +48,8 @@ static const uint32_t legal_ctrl[] = {
     0x01000000u, 0x01840000u, 0x01A40000u, /* S-InitConfirmNetPrm */
     0x02000000u, 0x02840000u, 0x02A40000u, /* S-InitVerifyStnPrm */
     0x03000000u, 0x03840000u, 0x03A40000u, /* S-InvokeFunc */
+    0xFA000000u, 0xFA840000u, 0xFAA40000u, /* S-ReadErrorInfo */
+    0xFB000000u, 0xFB840000u, 0xFBA40000u, /* S-WriteErrorInfo */
     0xFC000000u, 0xFC840000u, 0xFCA40000u, /* S-RefreshReady */
     GO_REQUEST,  0xFE840000u, 0xFEA40000u, /* S-RefreshGO */
     0x01C40000u, 0x01E40000u,              /* replies with Busy, without Error and with it */
@@ -380,6 +382,14 @@ static const struct {
     {{0x03800000u, 0x01020103u, 0x03E80000u, 0, 0, 10, 0xF0F0E7A9u}, 7},
     /* S-InvokeFunc reply with Error */
     {{0x03A40000u, 0x01020103u, 0x03E80000u, 0, 0, 10, 0xAB27D716u}, 0},
+    /* S-ReadErrorInfo request */
+    {{0xFA000000u, 0x01020103u, 0x03E80000u, 0, 0, 0, 0x63F83D6Eu}, 0},
+    /* S-ReadErrorInfo reply with Busy */
+    {{0xFAC40000u, 0x01020103u, 0x03E80000u, 0, 0, 0, 0x88540788u}, 7},
+    /* S-WriteErrorInfo reply with Error */
+    {{0xFBA40000u, 0x01020103u, 0x03E80000u, 0, 0, 0, 0xAC6A3805u}, 0},
+    /* S-WriteErrorInfo reply without Application */
+    {{0xFB800000u, 0x01020103u, 0x03E80000u, 0, 0, 0, 0xF7BD08BAu}, 7},
     /* Cmd 0x04 */
     {{0x04000000u, 0x01020103u, 0x03E80000u, 0, 0, 0, 0x9CC3EE72u}, 7},
 };

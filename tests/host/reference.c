@@ -86,6 +86,8 @@ static bool is_form_right(const uint8_t *subpdu)
     case S_REFRESH_GO:
         return application == ack && !busy && (obl == 0 || !ack);
     case S_CONNECT:
+    case S_READ_ERROR_INFO:
+    case S_WRITE_ERROR_INFO:
         return application == ack && !busy && obl == 0;
     case S_INIT_CONFIRM_NET_PRM:
     case S_INIT_VERIFY_STN_PRM:

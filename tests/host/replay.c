@@ -36,7 +36,11 @@ enum kind {
     READY,
     SET_RESULT,
     CLEAR_RESULT,
+    SET_RECORD,
+    CLEAR_RECORD,
     INVOKE,
+    READ_ERROR,
+    WRITE_ERROR,
     STOP,
     SHOW,
     SEND,
@@ -171,9 +175,11 @@ static const struct {
     const char *word;
     enum kind kind;
 } entry_calls[] = {
-    {"start", START},       {"restart", RESTART},       {"notready", NOT_READY}, {"ready", READY},
-    {"result", SET_RESULT}, {"noresult", CLEAR_RESULT}, {"invoke", INVOKE},      {"stop", STOP},
-    {"show", SHOW},         {"send", SEND},
+    {"start", START},        {"restart", RESTART},       {"notready", NOT_READY},
+    {"ready", READY},        {"result", SET_RESULT},     {"noresult", CLEAR_RESULT},
+    {"record", SET_RECORD},  {"norecord", CLEAR_RECORD}, {"invoke", INVOKE},
+    {"readerr", READ_ERROR}, {"writeerr", WRITE_ERROR},  {"stop", STOP},
+    {"show", SHOW},          {"send", SEND},
 };
 
 static enum kind kind_of(struct text word)
@@ -186,6 +192,12 @@ static enum kind kind_of(struct text word)
     return NOTHING;
 }
 
+static bool lends_bytes(enum kind kind)
+{
+    return kind == SEND || kind == SET_RESULT || kind == SET_RECORD || kind == INVOKE ||
+           kind == WRITE_ERROR;
+}
+
 /*
  * CLOCK ENTRY, the command word of an invoke, and the bytes that a call is lent. The last word is
  * all that is left of the line.
@@ -193,7 +205,7 @@ static enum kind kind_of(struct text word)
 static bool read_entry_call(struct text word, struct text rest)
 {
     const enum kind kind = kind_of(word);
-    const bool lends = kind == SEND || kind == SET_RESULT || kind == INVOKE;
+    const bool lends = lends_bytes(kind);
     const struct text clock = next_word(&rest);
     const struct text entry = lends ? next_word(&rest) : rest;
 
@@ -281,8 +293,20 @@ static void make_call(void)
     case CLEAR_RESULT:
         now.told = folderpink_clear_result(&call, records, lent);
         break;
+    case SET_RECORD:
+        now.told = folderpink_set_record(&call, records, lent, now.bytes, now.length);
+        break;
+    case CLEAR_RECORD:
+        now.told = folderpink_clear_record(&call, records, lent);
+        break;
     case INVOKE:
         now.told = folderpink_invoke(&call, records, lent, now.bytes, now.length);
+        break;
+    case READ_ERROR:
+        now.told = folderpink_read_error(&call, records, lent);
+        break;
+    case WRITE_ERROR:
+        now.told = folderpink_write_error(&call, records, lent, now.bytes, now.length);
         break;
     case STOP:
         now.told = folderpink_stop(&call, records, lent, output, room);

@@ -20,6 +20,8 @@
 #define S_INIT_VERIFY_STN_PRM 0x02u
 #define S_INVOKE_FUNC 0x03u
 #define S_DISCONNECT 0xF9u
+#define S_READ_ERROR_INFO 0xFAu
+#define S_WRITE_ERROR_INFO 0xFBu
 #define S_REFRESH_READY 0xFCu
 #define S_REFRESH_GO 0xFEu
 #define S_REFRESH 0xFFu

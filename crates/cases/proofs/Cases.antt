@@ -7,11 +7,15 @@ use Rattle.crc.specs.Crc.{bitStep, bitSteps, byteStep, crcFrom, crc}
 use Rattle.frame.specs.Control.{controlOf, hasForm}
 use Rattle.frame.specs.Reading.{hasCheckWord, fieldsIn, readingOfCopies, readingOf}
 use Rattle.frame.specs.Writing.{headBytes, withCheckWord, twice, subBytes, frameBytes}
-use Rattle.steps.specs.Frames.{setupData, handedOver}
+use Rattle.steps.specs.Frames.{setupData, handedOver, recordIn}
 use Rattle.settings.specs.Lists.{connectionAt, settingsAt, isConnectionAt, isNewAt, areConnections, isList}
 use Rattle.gateway.specs.Tables.{endpointAt, placeOf, clockStep}
-use Rattle.cases.specs.Cases.{Case, edges, emptyCycles, busyReplies, requestLimits, results, userResults}
-use Rattle.cases.specs.Cases.{commands, commandReplies, lentSlices, loadings, fullTable, connections, loadingAll, Hold, CasesHold}
+use Rattle.cases.specs.Cases.{Case, mainCases, edges, emptyCycles, busyReplies, requestLimits, results, userResults}
+use Rattle.cases.specs.Cases.{commands, commandReplies, lentSlices, loadings, fullTable, connections, loadingAll, Hold}
+use Rattle.cases.specs.ErrorRecords.{records, days, readings, writings, userRecords, queued, readReplies, writeReplies}
+use Rattle.cases.specs.Table.{CasesHold}
+use Rattle.errors.specs.Calendar.{daysOf, daysIn, isDate}
+use Rattle.errors.specs.Reading.{hasDigits, hasCount, isRecord, moreFollows}
 
 edges-hold : Hold edges
 unfolding Hold edges controlOf headBytes withCheckWord twice subBytes frameBytes bitStep bitSteps byteStep crcFrom crc
@@ -72,13 +76,52 @@ full-holds : Hold fullTable
 unfolding Hold fullTable
 full-holds = ap (λ (given : List ℕ). given ∷ []) all-loaded
 
+-- ---- error records
+records-hold : Hold records
+unfolding Hold records daysOf daysIn isDate hasDigits hasCount isRecord
+records-hold = refl
+
+days-hold : Hold days
+unfolding Hold days daysOf daysIn isDate hasDigits hasCount isRecord
+days-hold = refl
+
+readings-hold : Hold readings
+unfolding Hold readings controlOf hasForm hasCheckWord fieldsIn readingOfCopies readingOf headBytes withCheckWord
+    twice bitStep bitSteps byteStep crcFrom crc setupData recordIn settingsAt daysOf daysIn isDate hasDigits hasCount isRecord
+readings-hold = refl
+
+writings-hold : Hold writings
+unfolding Hold writings controlOf setupData recordIn settingsAt daysOf daysIn isDate hasDigits hasCount isRecord
+    moreFollows
+writings-hold = refl
+
+user-records-hold : Hold userRecords
+unfolding Hold userRecords controlOf setupData recordIn connectionAt settingsAt isConnectionAt isNewAt areConnections isList
+    endpointAt clockStep daysOf daysIn isDate hasDigits hasCount isRecord
+user-records-hold = refl
+
+queued-hold : Hold queued
+unfolding Hold queued controlOf setupData handedOver recordIn settingsAt endpointAt placeOf clockStep daysOf daysIn isDate
+    hasDigits hasCount isRecord
+queued-hold = refl
+
+read-replies-hold : Hold readReplies
+unfolding Hold readReplies controlOf setupData recordIn settingsAt endpointAt placeOf clockStep daysOf daysIn isDate
+    hasDigits hasCount isRecord
+read-replies-hold = refl
+
+write-replies-hold : Hold writeReplies
+unfolding Hold writeReplies controlOf setupData recordIn settingsAt endpointAt placeOf clockStep daysOf daysIn isDate
+    hasDigits hasCount isRecord
+write-replies-hold = refl
+
 -- ---- the parts together
 both : (xs ys : List Case) → Hold xs → Hold ys → Hold (xs ++ ys)
 unfolding Hold
 both xs ys p q = rw (map-append, map-append) (λ i. p i ++ q i)
 
-pub cases-hold : CasesHold
-cases-hold =
+main-hold : Hold mainCases
+main-hold =
     both _ _ edges-hold
     (both _ _ cycles-hold
     (both _ _ busy-hold
@@ -87,3 +130,11 @@ cases-hold =
     (both _ _ user-results-hold
     (both _ _ commands-hold
     (both _ _ command-replies-hold (both _ _ slices-hold (both _ _ loadings-hold full-holds)))))))))
+
+pub cases-hold : CasesHold
+cases-hold =
+    both _ _ main-hold
+    (both _ _ records-hold
+    (both _ _ days-hold
+    (both _ _ readings-hold
+    (both _ _ writings-hold (both _ _ user-records-hold (both _ _ queued-hold (both _ _ read-replies-hold write-replies-hold)))))))

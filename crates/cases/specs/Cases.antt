@@ -46,14 +46,14 @@ use Rattle.gateway.specs.Calls.{Result, startIn, sendIn, stopIn, restartIn, set
 use Rattle.gateway.specs.Calls.{invokeIn, showIn, byReading, deliverIn}
 
 -- master 1/2, slave 1/3, one word each way, I = 100, R = 50, A = 50: kinds 1 to 7
-abbrev listOf : ℕ → List ℕ
+abbrev pub listOf : ℕ → List ℕ
 listOf role =
     0x10000102 ∷ 0x20000103 ∷ role ∷ 0x40000064 ∷ 0x50000032 ∷ 0x60000032 ∷ 0x70000007 ∷ []
 
-abbrev masterSettings : Settings
+abbrev pub masterSettings : Settings
 masterSettings = settingsAt (listOf 0x30000021) 0
 
-abbrev slaveSettings : Settings
+abbrev pub slaveSettings : Settings
 slaveSettings = settingsAt (listOf 0x30000421) 0
 
 -- the master's settings with age 0, so that only what counts as age 0 is accepted
@@ -61,18 +61,18 @@ abbrev ageless : Settings
 ageless = settingsOf 0x0102 0x0103 0x021 100 50 0 7
 
 -- an endpoint in a state since some reading, with what it has measured and its ts_offset
-abbrev endpointIn : Settings → State → ℕ → ℕ → ℕ → Endpoint
+abbrev pub endpointIn : Settings → State → ℕ → ℕ → ℕ → Endpoint
 endpointIn s state since measured offset =
-    inState state (timedFrom since (withSetup Nothing measured offset 0 Empty (freshOf s)))
+    inState state (timedFrom since (withSetup Nothing measured offset 0 Empty false (freshOf s)))
 
-abbrev cid : ℕ
+abbrev pub cid : ℕ
 cid = 0x01020103
 
 -- one word, and the zero word
-abbrev word : List ℕ
+abbrev pub word : List ℕ
 word = wordBytes 1
 
-abbrev zeroWord : List ℕ
+abbrev pub zeroWord : List ℕ
 zeroWord = wordBytes 0
 
 -- ---- parts as numbers, 0 for none
@@ -80,12 +80,12 @@ abbrev stampOf : Timestamp → ℕ
 stampOf Never = 0
 stampOf (At s) = s
 
-abbrev pendingOf : Pending → ℕ
+abbrev pub pendingOf : Pending → ℕ
 pendingOf Nothing = 0
 pendingOf (Asked s) = s
 
 -- an entry, counted from 1
-abbrev ordinalOf : Entries.Entry → ℕ
+abbrev pub ordinalOf : Entries.Entry → ℕ
 ordinalOf Entries.Absent = 0
 ordinalOf (Entries.At n) = suc n
 
@@ -108,14 +108,14 @@ stampIn (frame f body) = f .timestamp
 stampIn (value bytes) = 0
 
 -- S-Data of a frame, or what its user gets
-abbrev dataIn : Written → List ℕ
+abbrev pub dataIn : Written → List ℕ
 dataIn nothing = []
 dataIn (frame f body) = body
 dataIn (value bytes) = bytes
 
 -- ---- calls, each with what a row asks of it
 -- a user's call: its number; CTRL and the timestamp written; the state and the count of requests that it leaves
-abbrev calling : Outcome → List ℕ
+abbrev pub calling : Outcome → List ℕ
 calling o =
     numberOf (o .answer) ∷ controlIn (o .writes) ∷ stampIn (o .writes) ∷ rowOf (o .endpoint .state)
     ∷ o .endpoint .setup .requests ∷ []
@@ -137,7 +137,7 @@ askedRight state k = asked true state k (setupData slaveSettings k)
 
 -- its number; CTRL and the timestamp of the reply; the state, the timer's start, s2 and the last timestamp accepted
 -- that it leaves
-abbrev replying : Outcome → List ℕ
+abbrev pub replying : Outcome → List ℕ
 replying o =
     numberOf (o .answer) ∷ controlIn (o .writes) ∷ stampIn (o .writes) ∷ rowOf (o .endpoint .state)
     ∷ o .endpoint .since ∷ o .endpoint .setup .measured ∷ stampOf (o .endpoint .timestamps .accepted) ∷ []
@@ -302,7 +302,7 @@ loadingAll n =
     numberOf (l .answer) ∷ l .lent .gateway .count ∷ endpointAt (l .lent) (n - 1) .settings .connection ∷ []
 
 -- the frame check of a frame with this CTRL
-abbrev formOf : ℕ → ℕ
+abbrev pub formOf : ℕ → ℕ
 formOf control = Reader.numberOf (Reader.readingOf (twice (withCheckWord (headBytes control cid 0 0 word))))
 
 -- a master since 1,000 in a state, with that last timestamp sent, after so many requests; its send with one word lent
@@ -340,10 +340,10 @@ abbrev performing : Outcome → List ℕ
 performing o = replying o ++ (o .endpoint .words .count ∷ dataIn (o .writes))
 
 -- a gateway of this connection alone, its last reading 1,000
-abbrev alone : Endpoint → Lent
+abbrev pub alone : Endpoint → Lent
 alone e = lent (atClock 1000 (loadedWith 1)) (recordOf e ∷ [])
 
--- the queue (0 nothing waits, 1 a command does, 2 it is closed), how many words are handed over, and the first
+-- the queue (0 nothing waits, 1 S-InvokeFunc does, 4 it is closed), how many words are handed over, and the first
 abbrev handed : Endpoint → List ℕ
 handed e = queueNumber (e .setup .queue) ∷ e .words .count ∷ wordAt (e .words .bytes) 0 ∷ []
 
@@ -356,10 +356,10 @@ handing r =
     ∷ handed e
 
 -- a master in a state since 1,000, with an m2 of 5; with the command queued
-abbrev master : State → Endpoint
+abbrev pub master : State → Endpoint
 master state = endpointIn masterSettings state 1000 5 0
 
-abbrev waiting : State → Endpoint
+abbrev pub waiting : State → Endpoint
 waiting state = invokeOf (master state) 0x54415245 (wordBytes 5) .endpoint
 
 -- its user's invoke at 1,020 with this word and these bytes
@@ -377,11 +377,11 @@ commanding o =
     ++ (pendingOf (o .endpoint .setup .pending) ∷ queueNumber (o .endpoint .setup .queue) ∷ dataIn (o .writes))
 
 -- the command sent at 1,010
-abbrev commanded : Endpoint
+abbrev pub commanded : Endpoint
 commanded = sendOf (waiting ParamVerify) 1010 [] .endpoint
 
 -- its reply at 1,030 as the reader hands it on: Busy, Error, timestamp and S-Data
-abbrev answered : Bool → Bool → ℕ → List ℕ → Result
+abbrev pub answered : Bool → Bool → ℕ → List ℕ → Result
 answered busy error stamp body =
     byReading (alone commanded) 1030 248 body (Frame (ackFields K.InvokeFunc busy error cid stamp) 0 (length body))
 
@@ -398,7 +398,7 @@ hearingIn r =
     ∷ e .setup .measured ∷ pendingOf (e .setup .pending) ∷ queueNumber (e .setup .queue) ∷ bytesOf (r .writes)
 
 -- the endpoint that it leaves
-abbrev answeredBy : Result → Endpoint
+abbrev pub answeredBy : Result → Endpoint
 answeredBy r = endpointAt (r .lent) 0
 
 -- S-RefreshReady sent at 1,010, and answered Busy at 1,030
@@ -411,11 +411,11 @@ pub record Case : Type 0 where
   pub given : List ℕ
   pub stated : List ℕ
 
-abbrev row : List ℕ → List ℕ → Case
+abbrev pub row : List ℕ → List ℕ → Case
 row g s = record { given = g; stated = s }
 
 -- one number
-abbrev case : ℕ → ℕ → Case
+abbrev pub case : ℕ → ℕ → Case
 case g s = row (g ∷ []) (s ∷ [])
 
 -- ---- document 01; its T code in the standard's words too (document 02, note 4)
@@ -653,7 +653,7 @@ commandReplies =
     ∷ row (handing (invokeIn (answered false false 1010 weighed .lent) 1040 0 7 []))
     (0 ∷ 1 ∷ 0 ∷ rowOf ParamVerify ∷ 1030 ∷ 1 ∷ 1 ∷ 7 ∷ [])
     ∷ row (commanding (sendOf (answeredBy (answered false false 1010 weighed)) 1040 []))
-    (0 ∷ 0xFC000000 ∷ 1040 ∷ rowOf ParamVerify ∷ 2 ∷ 1040 ∷ 2 ∷ zeroWord)
+    (0 ∷ 0xFC000000 ∷ 1040 ∷ rowOf ParamVerify ∷ 2 ∷ 1040 ∷ 4 ∷ zeroWord)
     -- with Busy and the same words: nothing is written, and the command is due again with a new timestamp
     ∷ row (hearingIn (answered true false 1010 tare)) (0 ∷ 1 ∷ 0 ∷ rowOf ParamVerify ∷ 1030 ∷ 5 ∷ 0 ∷ 1 ∷ [])
     ∷ row (commanding (sendOf (answeredBy (answered true false 1010 tare)) 1040 []))
@@ -669,8 +669,8 @@ commandReplies =
     (11 ∷ rowOf ParamVerify ∷ 1010 ∷ 5 ∷ 1010 ∷ [])
     -- once S-RefreshReady has gone since start: 11, also when it was answered Busy
     ∷ row (invoking (sendOf (master ParamVerify) 1010 [] .endpoint) 7 [])
-    (11 ∷ 1 ∷ 0 ∷ rowOf ParamVerify ∷ 1010 ∷ 2 ∷ 0 ∷ 0 ∷ [])
-    ∷ row (handing (invokeIn (alone readyGone) 1040 0 7 [])) (11 ∷ 1 ∷ 0 ∷ rowOf ParamVerify ∷ 1030 ∷ 2 ∷ 0 ∷ 0 ∷ [])
+    (11 ∷ 1 ∷ 0 ∷ rowOf ParamVerify ∷ 1010 ∷ 4 ∷ 0 ∷ 0 ∷ [])
+    ∷ row (handing (invokeIn (alone readyGone) 1040 0 7 [])) (11 ∷ 1 ∷ 0 ∷ rowOf ParamVerify ∷ 1030 ∷ 4 ∷ 0 ∷ 0 ∷ [])
     -- the connection's end: by stop, by 9 in whatever call, by 19; nothing waits then, nor after the next start
     ∷ row (commanding (stopOf (waiting ParamVerify) 1010))
     (0 ∷ 0xF9000000 ∷ 1010 ∷ rowOf Terminate ∷ 0 ∷ 0 ∷ 0 ∷ zeroWord)
@@ -743,14 +743,12 @@ loadings =
 unfoldable pub fullTable : List Case
 fullTable = row (loadingAll 64) (0 ∷ 64 ∷ 0x013F803F ∷ []) ∷ []
 
-abbrev pub cases : List Case
-cases =
+-- documents 01 and 02, but for note 6
+abbrev pub mainCases : List Case
+mainCases =
     edges ++ (emptyCycles ++ (busyReplies ++ (requestLimits
     ++ (results ++ (userResults ++ (commands ++ (commandReplies ++ (lentSlices ++ (loadings ++ fullTable)))))))))
 
 -- each row gives what the paper states
 unfoldable pub Hold : List Case → Type 0
 Hold cs = map (λ (c : Case). c .given) cs ≡ map (λ (c : Case). c .stated) cs
-
-abbrev pub CasesHold : Type 0
-CasesHold = Hold cases

@@ -1,2 +1,4 @@
--- The cases that are proved.
+-- The cases that are proved, in reading order; last the whole table.
 pub mod Cases
+pub mod ErrorRecords
+pub mod Table

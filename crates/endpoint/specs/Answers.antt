@@ -28,6 +28,7 @@ reasonNumber R.Unequal = 16
 reasonNumber R.TooSoon = 17
 reasonNumber R.Settings = 18
 reasonNumber R.Exhausted = 19
+reasonNumber R.Record = 20
 
 -- document 01's number of an answer, 0 for done
 abbrev pub numberOf : Answer → ℕ
@@ -39,6 +40,7 @@ numberOf (Ended r) = reasonNumber r
 abbrev pub callFaults : Bool → Bool → Bool → Bool → Faults
 callFaults turn width exhausted soon = record {
   turn = turn;
+  norecord = false;
   width = width;
   exhausted = exhausted;
   repeat = false;
@@ -48,10 +50,25 @@ callFaults turn width exhausted soon = record {
   soon = soon;
 }
 
--- what can refuse a setup frame: 11, 12, 13 and 16
-abbrev pub setupFaults : Bool → Bool → Bool → Bool → Faults
-setupFaults turn width repeat unequal = record {
+-- what can refuse a user's call that hands over an error record: 11 and 20
+abbrev pub recordFaults : Bool → Bool → Faults
+recordFaults turn norecord = record {
   turn = turn;
+  norecord = norecord;
+  width = false;
+  exhausted = false;
+  repeat = false;
+  ahead = false;
+  late = false;
+  unequal = false;
+  soon = false;
+}
+
+-- what can refuse a setup frame: 11, 20, 12, 13 and 16
+abbrev pub setupFaults : Bool → Bool → Bool → Bool → Bool → Faults
+setupFaults turn norecord width repeat unequal = record {
+  turn = turn;
+  norecord = norecord;
   width = width;
   exhausted = false;
   repeat = repeat;
@@ -65,6 +82,7 @@ setupFaults turn width repeat unequal = record {
 abbrev pub valueFaults : Bool → Bool → Bool → Bool → Bool → Faults
 valueFaults turn width repeat ahead late = record {
   turn = turn;
+  norecord = false;
   width = width;
   exhausted = false;
   repeat = repeat;
@@ -74,18 +92,19 @@ valueFaults turn width repeat ahead late = record {
   soon = false;
 }
 
--- the first that applies, in the order of the numbers, but for 19, which comes after 12; 15, 16 and 19 end the
--- connection
+-- the first that applies, in the order of the numbers, but for 20, which stands in 12's place and before it, and 19, which
+-- comes after 12; 15, 16 and 19 end the connection
 abbrev pub firstOf : Faults → Answer
 firstOf f =
     cond (f .turn) (Dropped R.Turn)
+    (cond (f .norecord) (Dropped R.Record)
     (cond (f .width) (Dropped R.Width)
     (cond (f .exhausted) (Ended R.Exhausted)
     (cond (f .repeat) (Dropped R.Repeat)
     (cond (f .ahead) (Dropped R.Ahead)
     (cond (f .late) (Ended R.Late)
     (cond (f .unequal) (Ended R.Unequal)
-    (cond (f .soon) (Dropped R.TooSoon) Done)))))))
+    (cond (f .soon) (Dropped R.TooSoon) Done))))))))
 
 abbrev pub isDone : Answer → Bool
 isDone Done = true

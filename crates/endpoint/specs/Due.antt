@@ -4,32 +4,44 @@ use mathlib.Core.Bool.{Bool, true, false, _&&_, not, cond}
 use Prim.Native.Nat.{ℕ}
 use lib.Dec.{eqb, leb}
 use Rattle.frame.specs.declared.Command.{Command}
-use Rattle.frame.specs.declared.Command.the-variants.{InvokeFunc, RefreshReady}
+use Rattle.frame.specs.declared.Command.the-variants as K
 use Rattle.frame.specs.Control.{is, waitsForStation}
 use Rattle.endpoint.specs.declared.Pending.{Pending}
 use Rattle.endpoint.specs.declared.Pending.the-variants.{Nothing, Asked}
 use Rattle.endpoint.specs.declared.Queue.{Queue}
-use Rattle.endpoint.specs.declared.Queue.the-variants.{Empty, Waiting, Closed}
+use Rattle.endpoint.specs.declared.Queue.the-variants.{Empty, InvokeFunc, ReadErrorInfo, WriteErrorInfo, Closed}
 use Rattle.endpoint.specs.Endpoint.{Endpoint}
 use Rattle.endpoint.specs.Table.{isSetup, requestOf}
 
 abbrev pub isWaiting : Queue → Bool
 isWaiting Empty = false
-isWaiting Waiting = true
+isWaiting InvokeFunc = true
+isWaiting ReadErrorInfo = true
+isWaiting WriteErrorInfo = true
 isWaiting Closed = false
 
 abbrev pub isEmpty : Queue → Bool
 isEmpty Empty = true
-isEmpty Waiting = false
+isEmpty InvokeFunc = false
+isEmpty ReadErrorInfo = false
+isEmpty WriteErrorInfo = false
 isEmpty Closed = false
+
+-- the command that waits, or S-RefreshReady, in whose place it goes
+abbrev pub queuedIn : Queue → Command
+queuedIn Empty = K.RefreshReady
+queuedIn InvokeFunc = K.InvokeFunc
+queuedIn ReadErrorInfo = K.ReadErrorInfo
+queuedIn WriteErrorInfo = K.WriteErrorInfo
+queuedIn Closed = K.RefreshReady
 
 -- the queued command is due where S-RefreshReady would be: "the send that would write S-RefreshReady writes the queued one"
 abbrev pub isCommandDue : Endpoint → Bool
-isCommandDue e = isWaiting (e .setup .queue) && is (requestOf (e .state)) RefreshReady
+isCommandDue e = isWaiting (e .setup .queue) && is (requestOf (e .state)) K.RefreshReady
 
 -- the request due from a master: the one that it sends next, or that is pending
 abbrev pub requestDue : Endpoint → Command
-requestDue e = cond (isCommandDue e) InvokeFunc (requestOf (e .state))
+requestDue e = cond (isCommandDue e) (queuedIn (e .setup .queue)) (requestOf (e .state))
 
 abbrev pub isPending : Pending → Bool
 isPending Nothing = false
@@ -55,6 +67,10 @@ isExhausted e = leb requestLimit (e .setup .requests)
 -- a master's user may queue a command in setup, one at a time, until S-RefreshReady has gone
 abbrev pub mayQueue : Endpoint → Bool
 mayQueue e = not (e .settings .slave) && (isSetup (e .state) && isEmpty (e .setup .queue))
+
+-- S-ReadErrorInfo, until S-InvokeFunc has gone
+abbrev pub mayQueueRead : Endpoint → Bool
+mayQueueRead e = mayQueue e && not (e .setup .invoked)
 
 -- a station that is not ready answers S-InitConfirmNetPrm, S-InitVerifyStnPrm and S-RefreshReady with Busy 1
 abbrev pub isHeldBack : Endpoint → Command → Bool

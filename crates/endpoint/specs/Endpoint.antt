@@ -1,6 +1,6 @@
--- An endpoint as the definitions have it: all that a connection keeps, with the value that it holds and the words that
--- its user has handed over. In memory it is a record (the crate records); the code hands on by value its core, which is
--- all but the bytes of these two.
+-- An endpoint as the definitions have it: all that a connection keeps, with the value that it holds and the words and the
+-- error record that its user has handed over. In memory it is a record (the crate records); the code hands on by value
+-- its core, which is all but the bytes of these three.
 use mathlib.Core.Bool.{Bool}
 use mathlib.Core.List.{List}
 use Prim.Native.Nat.{ℕ}
@@ -17,8 +17,7 @@ pub record Value : Type 0 where
   pub taken : Bool
   pub bytes : List ℕ
 
--- S-Data that its user has handed over: at a master the queued command, at a slave the station's result, 0 words where
--- none is set; from the front of the bytes
+-- S-Data that its user has handed over, from the front of the bytes; 0 words where none is set
 pub record Words : Type 0 where
   pub count : ℕ
   pub bytes : List ℕ
@@ -31,17 +30,24 @@ pub record Endpoint : Type 0 where
   pub timestamps : Timestamps
   pub setup : Setup
   pub station : Station
+  -- at a master its queued S-InvokeFunc, at a slave the station's result
   pub words : Words
+  -- at a master the error record of its queued S-WriteErrorInfo, at a slave the station's own
+  pub errorinfo : Words
   pub value : Value
 
 -- the fail-safe value
 abbrev pub noBytes : List ℕ
 noBytes = replicate 100 0
 
+-- no error record
+abbrev pub noRecord : List ℕ
+noRecord = replicate 56 0
+
 abbrev pub wordsOf : ℕ → List ℕ → Words
 wordsOf count bytes = record { count = count; bytes = bytes }
 
--- the core of an endpoint, and the endpoint of a core, the bytes of its value and of its words left out
+-- the core of an endpoint, and the endpoint of a core, the bytes of its value, words and error record left out
 abbrev pub coreOf : Endpoint → Core
 coreOf e = record {
   settings = e .settings;
@@ -51,6 +57,7 @@ coreOf e = record {
   setup = e .setup;
   station = e .station;
   words = e .words .count;
+  errorinfo = e .errorinfo .count;
   taken = e .value .taken;
 }
 
@@ -63,5 +70,6 @@ bare c = record {
   setup = c .setup;
   station = c .station;
   words = wordsOf (c .words) noBytes;
+  errorinfo = wordsOf (c .errorinfo) noRecord;
   value = record { taken = c .taken; bytes = noBytes };
 }

@@ -12,8 +12,8 @@ use Rattle.endpoint.specs.declared.Station.{Station}
 use Rattle.endpoint.specs.Endpoint.{Value, Words}
 use Rattle.endpoint.specs.Endpoint.{Endpoint}
 
-abbrev pub endpointOf : Settings → State → ℕ → Timestamps → Setup → Station → Words → Value → Endpoint
-endpointOf settings state since timestamps setup station words value = record {
+abbrev pub endpointOf : Settings → State → ℕ → Timestamps → Setup → Station → Words → Words → Value → Endpoint
+endpointOf settings state since timestamps setup station words errorinfo value = record {
   settings = settings;
   state = state;
   since = since;
@@ -21,18 +21,19 @@ endpointOf settings state since timestamps setup station words value = record {
   setup = setup;
   station = station;
   words = words;
+  errorinfo = errorinfo;
   value = value;
 }
 
 abbrev pub inState : State → Endpoint → Endpoint
-inState s e = endpointOf (e .settings) s (e .since) (e .timestamps) (e .setup) (e .station) (e .words) (e .value)
+inState s e = endpointOf (e .settings) s (e .since) (e .timestamps) (e .setup) (e .station) (e .words) (e .errorinfo) (e .value)
 
 -- its timer starts at t
 abbrev pub timedFrom : ℕ → Endpoint → Endpoint
-timedFrom t e = endpointOf (e .settings) (e .state) t (e .timestamps) (e .setup) (e .station) (e .words) (e .value)
+timedFrom t e = endpointOf (e .settings) (e .state) t (e .timestamps) (e .setup) (e .station) (e .words) (e .errorinfo) (e .value)
 
 abbrev pub withTimestamps : Timestamps → Endpoint → Endpoint
-withTimestamps ts e = endpointOf (e .settings) (e .state) (e .since) ts (e .setup) (e .station) (e .words) (e .value)
+withTimestamps ts e = endpointOf (e .settings) (e .state) (e .since) ts (e .setup) (e .station) (e .words) (e .errorinfo) (e .value)
 
 -- this timestamp is remembered as the last sent, or as the last accepted
 abbrev pub withSent : ℕ → Endpoint → Endpoint
@@ -41,44 +42,61 @@ withSent stamp e = withTimestamps (record { sent = At stamp; accepted = e .times
 abbrev pub withAccepted : ℕ → Endpoint → Endpoint
 withAccepted stamp e = withTimestamps (record { sent = e .timestamps .sent; accepted = At stamp }) e
 
-abbrev pub withSetup : Pending → ℕ → ℕ → ℕ → Queue → Endpoint → Endpoint
-withSetup pending measured offset requests queue e =
+abbrev pub withSetup : Pending → ℕ → ℕ → ℕ → Queue → Bool → Endpoint → Endpoint
+withSetup pending measured offset requests queue invoked e =
     endpointOf (e .settings) (e .state) (e .since) (e .timestamps)
-    (record { pending = pending; measured = measured; offset = offset; requests = requests; queue = queue })
-    (e .station) (e .words) (e .value)
+    (record {
+      pending = pending;
+      measured = measured;
+      offset = offset;
+      requests = requests;
+      queue = queue;
+      invoked = invoked;
+    })
+    (e .station) (e .words) (e .errorinfo) (e .value)
 
 abbrev pub withPending : Pending → Endpoint → Endpoint
 withPending p e =
-    withSetup p (e .setup .measured) (e .setup .offset) (e .setup .requests) (e .setup .queue) e
+    withSetup p (e .setup .measured) (e .setup .offset) (e .setup .requests) (e .setup .queue) (e .setup .invoked) e
 
 -- s2 or m2, and ts_offset
 abbrev pub withMeasured : ℕ → Endpoint → Endpoint
 withMeasured n e =
-    withSetup (e .setup .pending) n (e .setup .offset) (e .setup .requests) (e .setup .queue) e
+    withSetup (e .setup .pending) n (e .setup .offset) (e .setup .requests) (e .setup .queue) (e .setup .invoked) e
 
 abbrev pub withOffset : ℕ → Endpoint → Endpoint
 withOffset n e =
-    withSetup (e .setup .pending) (e .setup .measured) n (e .setup .requests) (e .setup .queue) e
+    withSetup (e .setup .pending) (e .setup .measured) n (e .setup .requests) (e .setup .queue) (e .setup .invoked) e
 
 -- so many setup requests have been written since the last start or loading
 abbrev pub withRequests : ℕ → Endpoint → Endpoint
 withRequests n e =
-    withSetup (e .setup .pending) (e .setup .measured) (e .setup .offset) n (e .setup .queue) e
+    withSetup (e .setup .pending) (e .setup .measured) (e .setup .offset) n (e .setup .queue) (e .setup .invoked) e
 
 abbrev pub withQueue : Queue → Endpoint → Endpoint
 withQueue q e =
-    withSetup (e .setup .pending) (e .setup .measured) (e .setup .offset) (e .setup .requests) q e
+    withSetup (e .setup .pending) (e .setup .measured) (e .setup .offset) (e .setup .requests) q (e .setup .invoked) e
+
+-- S-InvokeFunc has gone since the last start, or has not
+abbrev pub withInvoked : Bool → Endpoint → Endpoint
+withInvoked b e =
+    withSetup (e .setup .pending) (e .setup .measured) (e .setup .offset) (e .setup .requests) (e .setup .queue) b e
 
 -- S-Data that its user has handed over
 abbrev pub withWords : Words → Endpoint → Endpoint
 withWords w e =
-    endpointOf (e .settings) (e .state) (e .since) (e .timestamps) (e .setup) (e .station) w (e .value)
+    endpointOf (e .settings) (e .state) (e .since) (e .timestamps) (e .setup) (e .station) w (e .errorinfo) (e .value)
+
+-- an error record that its user has handed over
+abbrev pub withErrorInfo : Words → Endpoint → Endpoint
+withErrorInfo w e =
+    endpointOf (e .settings) (e .state) (e .since) (e .timestamps) (e .setup) (e .station) (e .words) w (e .value)
 
 abbrev pub holding : Value → Endpoint → Endpoint
-holding v e = endpointOf (e .settings) (e .state) (e .since) (e .timestamps) (e .setup) (e .station) (e .words) v
+holding v e = endpointOf (e .settings) (e .state) (e .since) (e .timestamps) (e .setup) (e .station) (e .words) (e .errorinfo) v
 
 -- its user says whether the station is not ready
 abbrev pub withNotReady : Bool → Endpoint → Endpoint
 withNotReady b e =
     endpointOf (e .settings) (e .state) (e .since) (e .timestamps) (e .setup) (record { notready = b }) (e .words)
-    (e .value)
+    (e .errorinfo) (e .value)

@@ -1,6 +1,7 @@
 // Answers: their numbers, and the first refusal that applies.
 ghost use mathlib.Core.Path.{_≡_};
-ghost use Rattle.endpoint.specs.Answers.{reasonNumber, numberOf, callFaults, setupFaults, valueFaults, firstOf};
+ghost use Rattle.endpoint.specs.Answers.{reasonNumber, numberOf, callFaults, recordFaults, setupFaults};
+ghost use Rattle.endpoint.specs.Answers.{valueFaults, firstOf};
 ghost use Rattle.endpoint.specs.Answers.{isDone, isDropped, isEnded};
 use super::Answer;
 use super::Faults;
@@ -29,6 +30,7 @@ pub fn reason_number(reason: Reason) -> u8
         Reason::TooSoon => 17,
         Reason::Settings => 18,
         Reason::Exhausted => 19,
+        Reason::Record => 20,
     }
 }
 
@@ -49,6 +51,7 @@ pub fn call_faults(turn: bool, width: bool, exhausted: bool, soon: bool) -> Faul
 {
     Faults {
         turn: turn,
+        norecord: false,
         width: width,
         exhausted: exhausted,
         repeat: false,
@@ -59,12 +62,30 @@ pub fn call_faults(turn: bool, width: bool, exhausted: bool, soon: bool) -> Faul
     }
 }
 
-// What can refuse a setup frame: 11, 12, 13 and 16.
-pub fn setup_faults(turn: bool, width: bool, repeat: bool, unequal: bool) -> Faults
-    ensures { λ r. ⌜ r ≡ setupFaults turn width repeat unequal ⌝ }
+// What can refuse a user's call that hands over an error record: 11 and 20.
+pub fn record_faults(turn: bool, norecord: bool) -> Faults
+    ensures { λ r. ⌜ r ≡ recordFaults turn norecord ⌝ }
 {
     Faults {
         turn: turn,
+        norecord: norecord,
+        width: false,
+        exhausted: false,
+        repeat: false,
+        ahead: false,
+        late: false,
+        unequal: false,
+        soon: false,
+    }
+}
+
+// What can refuse a setup frame: 11, 20, 12, 13 and 16.
+pub fn setup_faults(turn: bool, norecord: bool, width: bool, repeat: bool, unequal: bool) -> Faults
+    ensures { λ r. ⌜ r ≡ setupFaults turn norecord width repeat unequal ⌝ }
+{
+    Faults {
+        turn: turn,
+        norecord: norecord,
         width: width,
         exhausted: false,
         repeat: repeat,
@@ -81,6 +102,7 @@ pub fn value_faults(turn: bool, width: bool, repeat: bool, ahead: bool, late: bo
 {
     Faults {
         turn: turn,
+        norecord: false,
         width: width,
         exhausted: false,
         repeat: repeat,
@@ -91,12 +113,15 @@ pub fn value_faults(turn: bool, width: bool, repeat: bool, ahead: bool, late: bo
     }
 }
 
-// The first that applies, in the order of the numbers, but for 19, which comes after 12.
+// The first that applies, in the order of the numbers, but for 20, which comes before 12, and 19, which comes after it.
 pub fn first_of(f: Faults) -> Answer
     ensures { λ r. ⌜ r ≡ firstOf f ⌝ }
 {
     if f.turn {
         return Answer::Dropped(Reason::Turn);
+    }
+    if f.norecord {
+        return Answer::Dropped(Reason::Record);
     }
     if f.width {
         return Answer::Dropped(Reason::Width);

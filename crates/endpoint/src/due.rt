@@ -2,8 +2,8 @@
 // reply back.
 ghost use mathlib.Core.Path.{_≡_};
 ghost use Rattle.endpoint.specs.Endpoint.{bare};
-ghost use Rattle.endpoint.specs.Due.{isWaiting, isEmpty, isCommandDue, requestDue, isPending, answersTo};
-ghost use Rattle.endpoint.specs.Due.{mayRequest, isExhausted, mayQueue, isHeldBack};
+ghost use Rattle.endpoint.specs.Due.{isWaiting, isEmpty, queuedIn, isCommandDue, requestDue, isPending, answersTo};
+ghost use Rattle.endpoint.specs.Due.{mayRequest, isExhausted, mayQueue, mayQueueRead, isHeldBack};
 use super::Core;
 use super::Pending;
 use super::Queue;
@@ -21,7 +21,9 @@ pub fn is_waiting(queue: Queue) -> bool
 {
     match queue {
         Queue::Empty => false,
-        Queue::Waiting => true,
+        Queue::InvokeFunc => true,
+        Queue::ReadErrorInfo => true,
+        Queue::WriteErrorInfo => true,
         Queue::Closed => false,
     }
 }
@@ -31,8 +33,23 @@ fn is_empty(queue: Queue) -> bool
 {
     match queue {
         Queue::Empty => true,
-        Queue::Waiting => false,
+        Queue::InvokeFunc => false,
+        Queue::ReadErrorInfo => false,
+        Queue::WriteErrorInfo => false,
         Queue::Closed => false,
+    }
+}
+
+// The command that waits, or S-RefreshReady, in whose place it goes.
+fn queued_in(queue: Queue) -> Command
+    ensures { λ r. ⌜ r ≡ queuedIn queue ⌝ }
+{
+    match queue {
+        Queue::Empty => Command::RefreshReady,
+        Queue::InvokeFunc => Command::InvokeFunc,
+        Queue::ReadErrorInfo => Command::ReadErrorInfo,
+        Queue::WriteErrorInfo => Command::WriteErrorInfo,
+        Queue::Closed => Command::RefreshReady,
     }
 }
 
@@ -51,7 +68,9 @@ pub fn request_due(e: Core) -> Command
     ensures { λ r. ⌜ r ≡ requestDue (bare e) ⌝ }
 {
     if is_command_due(e) {
-        return Command::InvokeFunc;
+        let setup = e.setup;
+        let queue = setup.queue;
+        return queued_in(queue);
     }
     let state = e.state;
     request_of(state)
@@ -101,6 +120,13 @@ pub fn may_queue(e: Core) -> bool
     let setup = e.setup;
     let queue = setup.queue;
     !e.settings.slave & (is_setup(state) & is_empty(queue))
+}
+
+// Whether it may queue S-ReadErrorInfo.
+pub fn may_queue_read(e: Core) -> bool
+    ensures { λ r. ⌜ r ≡ mayQueueRead (bare e) ⌝ }
+{
+    may_queue(e) & !e.setup.invoked
 }
 
 // Whether a slave's reply to a command has Busy 1 because the station is not ready.

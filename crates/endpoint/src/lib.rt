@@ -26,7 +26,8 @@ pub struct Settings {
 }
 
 // The states of 001's table 40, for both roles. A master mirrors the slave: the matching reply moves it. Starting is
-// a master's before its first reply, FuncRunning a slave's alone.
+// a master's before its first reply, FuncRunning and TerminateMore a slave's alone. TerminateMore: Terminate, where more
+// error records follow.
 pub enum State {
     Close,
     Starting,
@@ -37,6 +38,7 @@ pub enum State {
     RefreshPending,
     Refresh,
     Terminate,
+    TerminateMore,
 }
 
 // A timestamp that is remembered, if any.
@@ -58,22 +60,25 @@ pub enum Pending {
     Asked(u64),
 }
 
-// A master's queue for a command that its user wants sent before S-RefreshReady. Closed: S-RefreshReady has gone since
-// the last start.
+// A master's queue for a command that its user wants sent before S-RefreshReady: empty, or which one waits. Closed:
+// S-RefreshReady has gone since the last start.
 pub enum Queue {
     Empty,
-    Waiting,
+    InvokeFunc,
+    ReadErrorInfo,
+    WriteErrorInfo,
     Closed,
 }
 
 // Setup. Measured: s2 at a slave, m2 at a master. Offset: a slave's ts_offset. Requests: how many setup requests a
-// master has written since its last start or loading, S-Disconnect aside.
+// master has written since its last start or loading, S-Disconnect aside. Invoked: S-InvokeFunc has gone since then.
 pub struct Setup {
     pub pending: Pending,
     pub measured: u64,
     pub offset: u64,
     pub requests: u8,
     pub queue: Queue,
+    pub invoked: bool,
 }
 
 // What the station's user has set, unset after loading; it survives restart and Terminate. A master's is of no account.
@@ -82,7 +87,8 @@ pub struct Station {
     pub notready: bool,
 }
 
-// What the calls on a connection hand on by value: all that it keeps, but for the bytes of its value and of its words.
+// What the calls on a connection hand on by value: all that it keeps, but for the bytes of its value, of its words and of
+// its error record.
 pub struct Core {
     pub settings: Settings,
     pub state: State,
@@ -91,8 +97,11 @@ pub struct Core {
     pub timestamps: Timestamps,
     pub setup: Setup,
     pub station: Station,
-    // how many words of S-Data its user has handed over: a master's queued command, a station's result, 0 for none
+    // how many words of S-Data its user has handed over: a master's queued S-InvokeFunc, a station's result, 0 for none
     pub words: u8,
+    // how many words the error record has that its user has handed over: a master's queued S-WriteErrorInfo, a station's
+    // own record, 0 for none
+    pub errorinfo: u8,
     // whether a value was accepted in this Refresh
     pub taken: bool,
 }
@@ -137,6 +146,8 @@ pub enum Reason {
     Settings,
     // 19, exhausted (document 02)
     Exhausted,
+    // 20, record (document 02)
+    Record,
 }
 
 // Done; refused; or refused with the connection ended.
@@ -146,9 +157,10 @@ pub enum Answer {
     Ended(Reason),
 }
 
-// What applies of the refusals 11 to 17 and 19, in the order in which they are given.
+// What applies of the refusals 11 to 17, 19 and 20, in the order in which they are given.
 pub struct Faults {
     pub turn: bool,
+    pub norecord: bool,
     pub width: bool,
     pub exhausted: bool,
     pub repeat: bool,

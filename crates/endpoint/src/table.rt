@@ -1,16 +1,20 @@
 // The table of states against commands, laid out like 001's table 40: a row a state, and what is read off it.
 ghost use mathlib.Core.Path.{_≡_};
 ghost use Prim.Native.Nat.{_<_};
-ghost use Rattle.endpoint.specs.Table.{rowOf, columnOf, isState, isSetup, nextOf, isNo, stateTo, requestOf};
+ghost use Rattle.endpoint.specs.Table.{rowOf, columnOf, isState, isSetup, isTerminated, nextOf, isNo, stateTo};
+ghost use Rattle.endpoint.specs.Table.{requestOf};
 use super::Next;
 use super::State;
 use frame::Command;
 
-// In each row: Connect, ConfirmNetwork, VerifyStation, InvokeFunc, RefreshReady, RefreshGo, Refresh, Disconnect. Beside
-// what leads somewhere its transition in table 40, or 01 where document 01 alone has it.
-const NEXT: [Next; 72] = [
+// In each row: Connect, ConfirmNetwork, VerifyStation, InvokeFunc, ReadErrorInfo, WriteErrorInfo, RefreshReady, RefreshGo,
+// Refresh, Disconnect. Beside what leads somewhere its transition in table 40, or 01 or 02 where that document alone has it.
+// Where more error records follow, WriteErrorInfo leads to TerminateMore (the crate transitions).
+const NEXT: [Next; 100] = [
     // Close
     Next::To(State::EstablishPending), // ST1
+    Next::No,
+    Next::No,
     Next::No,
     Next::No,
     Next::No,
@@ -26,12 +30,16 @@ const NEXT: [Next; 72] = [
     Next::No,
     Next::No,
     Next::No,
+    Next::No,
+    Next::No,
     Next::To(State::Terminate), // 01
     // EstablishPending
     Next::To(State::EstablishPending), // ST25
     Next::To(State::Establish), // ST2
     Next::No,
     Next::No,
+    Next::No,
+    Next::To(State::Terminate), // ST28, ST29
     Next::No,
     Next::No,
     Next::No,
@@ -42,6 +50,8 @@ const NEXT: [Next; 72] = [
     Next::To(State::ParamVerify), // ST4
     Next::No,
     Next::No,
+    Next::To(State::Terminate), // ST31, ST32
+    Next::No,
     Next::No,
     Next::No,
     Next::To(State::Terminate), // 01
@@ -50,6 +60,8 @@ const NEXT: [Next; 72] = [
     Next::No,
     Next::No,
     Next::To(State::FuncRunning), // ST7, ST8
+    Next::To(State::ParamVerify), // 02
+    Next::To(State::Terminate), // ST34, ST35
     Next::To(State::RefreshPending), // ST6
     Next::No,
     Next::No,
@@ -59,6 +71,8 @@ const NEXT: [Next; 72] = [
     Next::No,
     Next::No,
     Next::To(State::FuncRunning), // ST10, ST11
+    Next::No, // in ParamVerify only: 02
+    Next::To(State::Terminate), // ST37, ST38
     Next::To(State::RefreshPending), // ST12
     Next::No,
     Next::No,
@@ -69,10 +83,14 @@ const NEXT: [Next; 72] = [
     Next::No,
     Next::No,
     Next::No,
+    Next::To(State::Terminate), // ST39, ST40
+    Next::No,
     Next::To(State::Refresh), // ST14
     Next::No,
     Next::To(State::Terminate), // 01
     // Refresh
+    Next::No,
+    Next::No,
     Next::No,
     Next::No,
     Next::No,
@@ -87,6 +105,19 @@ const NEXT: [Next; 72] = [
     Next::No,
     Next::No,
     Next::No,
+    Next::No, // in TerminateMore only: 02
+    Next::No,
+    Next::No,
+    Next::No,
+    Next::No,
+    // TerminateMore, a slave's alone
+    Next::No,
+    Next::No,
+    Next::No,
+    Next::No,
+    Next::No,
+    Next::To(State::Terminate), // ST21, ST44
+    Next::No,
     Next::No,
     Next::No,
     Next::No,
@@ -94,7 +125,7 @@ const NEXT: [Next; 72] = [
 
 // A state's row.
 fn row(s: State) -> usize
-    ensures { λ r. ⌜ (r ≡ rowOf s) × (r < 9) ⌝ }
+    ensures { λ r. ⌜ (r ≡ rowOf s) × (r < 10) ⌝ }
 {
     match s {
         State::Close => 0,
@@ -106,22 +137,25 @@ fn row(s: State) -> usize
         State::RefreshPending => 6,
         State::Refresh => 7,
         State::Terminate => 8,
+        State::TerminateMore => 9,
     }
 }
 
 // A command's column.
 fn column(k: Command) -> usize
-    ensures { λ r. ⌜ (r ≡ columnOf k) × (r < 8) ⌝ }
+    ensures { λ r. ⌜ (r ≡ columnOf k) × (r < 10) ⌝ }
 {
     match k {
         Command::Connect => 0,
         Command::ConfirmNetwork => 1,
         Command::VerifyStation => 2,
         Command::InvokeFunc => 3,
-        Command::RefreshReady => 4,
-        Command::RefreshGo => 5,
-        Command::Refresh => 6,
-        Command::Disconnect => 7,
+        Command::ReadErrorInfo => 4,
+        Command::WriteErrorInfo => 5,
+        Command::RefreshReady => 6,
+        Command::RefreshGo => 7,
+        Command::Refresh => 8,
+        Command::Disconnect => 9,
     }
 }
 
@@ -145,14 +179,22 @@ pub fn is_setup(s: State) -> bool
         State::RefreshPending => true,
         State::Refresh => false,
         State::Terminate => false,
+        State::TerminateMore => false,
     }
+}
+
+// Terminate, whether or not more error records follow.
+pub fn is_terminated(s: State) -> bool
+    ensures { λ r. ⌜ r ≡ isTerminated s ⌝ }
+{
+    is_state(s, State::Terminate) | is_state(s, State::TerminateMore)
 }
 
 // Where a command leads from a state.
 pub fn next_state(k: Command, s: State) -> Next
     ensures { λ r. ⌜ r ≡ nextOf k s ⌝ }
 {
-    let i = row(s) * 8 + column(k);
+    let i = row(s) * 10 + column(k);
     NEXT[i]
 }
 
@@ -188,5 +230,6 @@ pub fn request_of(s: State) -> Command
         State::RefreshPending => Command::RefreshGo,
         State::Refresh => Command::Connect,
         State::Terminate => Command::Connect,
+        State::TerminateMore => Command::Connect,
     }
 }

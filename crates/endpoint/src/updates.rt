@@ -25,6 +25,7 @@ pub fn in_state(state: State, e: Core) -> Core
         setup: setup,
         station: station,
         words: e.words,
+        errorinfo: e.errorinfo,
         taken: e.taken,
     }
 }
@@ -70,6 +71,7 @@ pub fn with_pending(pending: Pending, e: Core) -> Core
         offset: setup.offset,
         requests: setup.requests,
         queue: queue,
+        invoked: setup.invoked,
     };
     let mut next = e;
     next.setup = changed;
@@ -87,6 +89,7 @@ pub fn with_queue(queue: Queue, e: Core) -> Core
         offset: setup.offset,
         requests: setup.requests,
         queue: queue,
+        invoked: setup.invoked,
     };
     let mut next = e;
     next.setup = changed;

@@ -8,7 +8,8 @@ use lib.Dec.{lit≤, lit<}
 use borrow.Author.Tests.{eq-eqb, ne-eqb}
 use Rattle.frame.specs.declared.Command.{Command}
 use Rattle.frame.specs.declared.Command.the-variants.{Connect, ConfirmNetwork, VerifyStation, InvokeFunc}
-use Rattle.frame.specs.declared.Command.the-variants.{Disconnect, RefreshReady, RefreshGo, Refresh}
+use Rattle.frame.specs.declared.Command.the-variants.{Disconnect, ReadErrorInfo, WriteErrorInfo, RefreshReady}
+use Rattle.frame.specs.declared.Command.the-variants.{RefreshGo, Refresh}
 use Rattle.frame.specs.declared.Subconnection.{Subconnection}
 use Rattle.frame.specs.declared.Subconnection.the-variants.{Absent, Number}
 use Rattle.frame.specs.declared.Fields.{Fields}
@@ -24,6 +25,8 @@ code-le ConfirmNetwork = lit≤ tt
 code-le VerifyStation = lit≤ tt
 code-le InvokeFunc = lit≤ tt
 code-le Disconnect = lit≤ tt
+code-le ReadErrorInfo = lit≤ tt
+code-le WriteErrorInfo = lit≤ tt
 code-le RefreshReady = lit≤ tt
 code-le RefreshGo = lit≤ tt
 code-le Refresh = lit≤ tt
@@ -34,6 +37,8 @@ command-of-code ConfirmNetwork = refl
 command-of-code VerifyStation = refl
 command-of-code InvokeFunc = refl
 command-of-code Disconnect = refl
+command-of-code ReadErrorInfo = refl
+command-of-code WriteErrorInfo = refl
 command-of-code RefreshReady = refl
 command-of-code RefreshGo = refl
 command-of-code Refresh = refl

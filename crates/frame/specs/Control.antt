@@ -4,7 +4,8 @@ use Prim.Native.Nat.{ℕ, _+_, _*_, _/_, _%_, _^_}
 use lib.Dec.{eqb}
 use Rattle.frame.specs.declared.Command.{Command}
 use Rattle.frame.specs.declared.Command.the-variants.{Connect, ConfirmNetwork, VerifyStation, InvokeFunc}
-use Rattle.frame.specs.declared.Command.the-variants.{Disconnect, RefreshReady, RefreshGo, Refresh}
+use Rattle.frame.specs.declared.Command.the-variants.{Disconnect, ReadErrorInfo, WriteErrorInfo, RefreshReady}
+use Rattle.frame.specs.declared.Command.the-variants.{RefreshGo, Refresh}
 use Rattle.frame.specs.declared.Subconnection.{Subconnection}
 use Rattle.frame.specs.declared.Subconnection.the-variants.{Absent, Number}
 use Rattle.frame.specs.declared.Fields.{Fields}
@@ -16,6 +17,8 @@ codeOf ConfirmNetwork = 0x01
 codeOf VerifyStation = 0x02
 codeOf InvokeFunc = 0x03
 codeOf Disconnect = 0xF9
+codeOf ReadErrorInfo = 0xFA
+codeOf WriteErrorInfo = 0xFB
 codeOf RefreshReady = 0xFC
 codeOf RefreshGo = 0xFE
 codeOf Refresh = 0xFF
@@ -28,8 +31,10 @@ commandOf code =
     (cond (eqb code 0x02) VerifyStation
     (cond (eqb code 0x03) InvokeFunc
     (cond (eqb code 0xF9) Disconnect
+    (cond (eqb code 0xFA) ReadErrorInfo
+    (cond (eqb code 0xFB) WriteErrorInfo
     (cond (eqb code 0xFC) RefreshReady
-    (cond (eqb code 0xFE) RefreshGo Refresh))))))
+    (cond (eqb code 0xFE) RefreshGo Refresh))))))))
 
 abbrev pub is : Command → Command → Bool
 is a b = eqb (codeOf a) (codeOf b)

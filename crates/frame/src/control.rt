@@ -16,6 +16,8 @@ fn code_of(command: Command) -> u32
         Command::VerifyStation => 0x02,
         Command::InvokeFunc => 0x03,
         Command::Disconnect => 0xF9,
+        Command::ReadErrorInfo => 0xFA,
+        Command::WriteErrorInfo => 0xFB,
         Command::RefreshReady => 0xFC,
         Command::RefreshGo => 0xFE,
         Command::Refresh => 0xFF,
@@ -40,6 +42,12 @@ pub(crate) fn command_of(code: u32) -> Command
     }
     if code == 0xF9 {
         return Command::Disconnect;
+    }
+    if code == 0xFA {
+        return Command::ReadErrorInfo;
+    }
+    if code == 0xFB {
+        return Command::WriteErrorInfo;
     }
     if code == 0xFC {
         return Command::RefreshReady;

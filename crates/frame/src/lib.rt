@@ -23,6 +23,10 @@ pub enum Command {
     InvokeFunc,
     // S-Disconnect, 0xF9
     Disconnect,
+    // S-ReadErrorInfo, 0xFA (document 02)
+    ReadErrorInfo,
+    // S-WriteErrorInfo, 0xFB (document 02)
+    WriteErrorInfo,
     // S-RefreshReady, 0xFC
     RefreshReady,
     // S-RefreshGO, 0xFE

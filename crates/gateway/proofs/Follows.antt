@@ -1,6 +1,6 @@
 -- From what the parts of a call ensure to what the call comes to.
 use mathlib.Core.Path.{_≡_, refl, sym, ap, subst, _∙_}
-use mathlib.Core.Bool.{Bool, true, false, _&&_, cond, and-true, and-false, true≢false, false≢true}
+use mathlib.Core.Bool.{Bool, true, false, _&&_, _||_, cond, and-true, and-false, true≢false, false≢true}
 use mathlib.Core.List.{List, []}
 use mathlib.Mathlib.Data.Bool.Basic.{and-elim-right}
 use Prim.Native.Nat.{ℕ}
@@ -10,26 +10,28 @@ use lib.ListN.{length, take}
 use lib.Seq.{slice}
 use borrow.Author.Tests.{ltb-true, ltb-false, lt-ltb, not-false}
 use Rattle.words.specs.Output.{over}
+use Rattle.frame.specs.declared.Command.the-variants as K
 use Rattle.frame.specs.declared.Fields.{Fields}
+use Rattle.frame.specs.Control.{is}
 use Rattle.frame.specs.declared.Reading.{Reading}
 use Rattle.frame.specs.declared.Reading.the-variants.{Frame, Refused}
 use Rattle.frame.specs.Reading.{readingOf, connectionIn, bodyIn}
 use Rattle.frame.proofs.Back.{locates}
 use Rattle.endpoint.specs.declared.State.the-variants.{Refresh}
-use Rattle.endpoint.specs.Endpoint.{Endpoint, noBytes, coreOf}
+use Rattle.endpoint.specs.Endpoint.{Endpoint, noBytes, noRecord, coreOf}
 use Rattle.endpoint.specs.declared.Reason.{Reason}
 use Rattle.endpoint.specs.declared.Reason.the-variants as R
 use Rattle.endpoint.specs.declared.Answer.{Answer}
 use Rattle.endpoint.specs.declared.Answer.the-variants.{Done, Dropped}
 use Rattle.endpoint.specs.Answers.{isDone, isEnded}
-use Rattle.endpoint.specs.Table.{isState, isSetup}
+use Rattle.endpoint.specs.Table.{isState, requestOf}
 use Rattle.endpoint.specs.Time.{isExpired, endedOf, afterTick}
 use Rattle.steps.specs.Frames.{nothing, bytesOf, showWidth}
 use Rattle.steps.specs.Frames.{paddedOf}
 use Rattle.steps.specs.Calls.{Outcome, isFailSafe, heldOr, shownOf}
 use Rattle.steps.specs.Says.{steppedOf, plainStep}
 use Rattle.steps.specs.Steps as S
-use Rattle.steps.specs.Values.{withBytes, isShow, withWordBytes, handsOver, handedIn}
+use Rattle.steps.specs.Values.{withBytes, isShow, handsWords, handsRecord}
 use Rattle.steps.proofs.Dispatch.{cond-true, cond-false}
 use Rattle.steps.proofs.Keeps.{bcase}
 use Rattle.steps.proofs.Quiet.{by-act}
@@ -40,20 +42,23 @@ use Rattle.gateway.specs.declared.Call.{Call}
 use Rattle.gateway.specs.declared.Called.{Called}
 use Rattle.gateway.specs.declared.Sought.{Sought}
 use Rattle.gateway.specs.declared.Picked.{Picked}
+use Rattle.gateway.specs.declared.Handed.{Handed}
 use Rattle.gateway.specs.declared.Moved.{Moved}
 use Rattle.gateway.specs.Tables.{Lent, lent, recordAt, blankRecord, endpointAt, placeOf, isReading}
 use Rattle.gateway.specs.Calls.{Result, admit, admitEntry, timely, refusedOf, onEntry, isShort, sendIn, stopIn}
 use Rattle.gateway.specs.Calls.{reasonOf, shownIn, showIn, byReading, emptyCycle, deliverIn, CallSays, OutputSays}
-use Rattle.gateway.specs.Parts.{withValue, withWords, valueAt, wordsAt, picked, pickedOf, heldAt, handedAt, soughtOf}
+use Rattle.gateway.specs.Parts.{withValue, valueAt, picked, pickedOf, heldAt, handed, withHeld, handedOf, handedAt}
+use Rattle.gateway.specs.Parts.{soughtOf}
 use Rattle.gateway.specs.Parts.{spotOf, metOf, settled, admitted, before, refusedMove, actedMove, shownMove}
 use Rattle.gateway.specs.Parts.{plainMove, handedMove, outcomeMove, StepMoves, showAnswer, ShowMoves, frameOutcome}
 use Rattle.gateway.specs.Parts.{FrameMoves, DeliverMoves}
-use Rattle.gateway.proofs.Parts.{PickSaid, ReadSaid, WordsSaid, SeekSaid, SettleSaid, PutSaid, PutWordsSaid}
+use Rattle.gateway.proofs.Parts.{PickSaid, ReadSaid, HandedSaid, SeekSaid, SettleSaid, PutSaid}
 use Rattle.gateway.proofs.OwnStep.{not-done}
-use Rattle.gateway.proofs.Lands.{keeps, Reads, Lands, refused-lands, entry-lands, entry-writes, entry-settles}
+use Rattle.gateway.proofs.Lands.{putAt, keeps, keptIn, keeping, Reads, Lands, refused-lands, entry-lands}
+use Rattle.gateway.proofs.Lands.{entry-writes, entry-settles}
 use Rattle.gateway.proofs.Lands.{show-settles}
 
--- ---- acts, which look at no words; all but a stop write nothing
+-- ---- acts, which look at nothing that was handed over; all but a stop write nothing
 abbrev pub isStop : S.Act → Bool
 isStop S.start = false
 isStop S.stop = true
@@ -61,7 +66,15 @@ isStop S.restart = false
 isStop (S.setNotReady b) = false
 isStop (S.setResult body) = false
 isStop S.clearResult = false
+isStop (S.setRecord body) = false
+isStop S.clearRecord = false
 isStop (S.invoke word bytes) = false
+isStop S.readError = false
+isStop (S.writeError body) = false
+
+-- what stands for it where nothing looks at it
+abbrev none-handed : Handed
+none-handed = handed noBytes noRecord
 
 quiet : (e : Endpoint) (t : ℕ) (a : S.Act) → isStop a ≡ false → S.actOf e t a .writes ≡ nothing
 quiet e t =
@@ -90,18 +103,19 @@ module _ (ys : List Record) (c : Call) (a : S.Act) (silent : isStop a ≡ false)
       (refusedMove entered (before entered false R.Entry)))
 
   act-lands : (m : Moved) (v : List ℕ) → m ≡ moves
-      → (keeps (S.act a) (acts .answer) ≡ true → v ≡ paddedOf (handedIn a)) → Lands ys c m (λ r. withWords r v) comes
+      → (keeps (S.act a) (acts .answer) ≡ true → v ≡ keptIn (S.act a)) → Lands ys c m (keeping (S.act a) v) comes
   act-lands m v g e =
-      subst (λ (x : Moved). Lands ys c x (λ r. withWords r v) comes) (sym g)
-      (entry-lands ys c (c .entry) (S.act a) refl noBytes (λ h. absurd (false≢true h)) false R.Entry v e)
+      subst (λ (x : Moved). Lands ys c x (keeping (S.act a) v) comes) (sym g)
+      (entry-lands ys c (c .entry) (S.act a) refl none-handed (λ h. absurd (false≢true h)) false R.Entry v e)
 
   act-settles : (m : Moved) → m ≡ moves → keeps (S.act a) (acts .answer) ≡ false → settled ys m ≡ comes .lent .records
   act-settles m g h =
       ap (settled ys) g
-      ∙ entry-settles ys c (c .entry) (S.act a) refl noBytes (λ h. absurd (false≢true h)) false R.Entry h
+      ∙ entry-settles ys c (c .entry) (S.act a) refl none-handed (λ h. absurd (false≢true h)) false R.Entry h
 
 -- an act that hands nothing over
-module _ (A : Call → S.Act) (silent : (x : Call) → isStop (A x) ≡ false) (none : (x : Call) → handsOver (A x) ≡ false) where
+module _ (A : Call → S.Act) (silent : (x : Call) → isStop (A x) ≡ false)
+    (none : (x : Call) → (handsWords (A x) || handsRecord (A x)) ≡ false) where
   abbrev pub PlainSaid : Picked → Moved → Type 0
   PlainSaid p m =
       m ≡ plainMove p (before p false R.Entry) (plainStep (S.actOf (bareOf (p .stored)) (p .call .clock) (A (p .call)))) false
@@ -121,18 +135,22 @@ module _ (A : Call → S.Act) (silent : (x : Call) → isStop (A x) ≡ false) (
         left = e₃ .1 ∙ ap (λ (l : List Record). settled l m) (e₁ .1) ∙ act-settles ys c a (silent c) m g k;
       }
 
--- an act that hands words over, which are kept
+-- an act that hands words or an error record over, which is kept: `put` says where
 module _ (A : Call → List ℕ → S.Act) (silent : (x : Call) (s : List ℕ) → isStop (A x s) ≡ false)
-    (hands : (x : Call) (s : List ℕ) → handsOver (A x s) ≡ true) where
-  abbrev pub HandedSaid : Picked → List ℕ → Moved → Type 0
-  HandedSaid p s m = m ≡ handedMove p (S.actOf (bareOf (p .stored)) (p .call .clock) (A (p .call) s))
+    (hands : (x : Call) (s : List ℕ) → (handsWords (A x s) || handsRecord (A x s)) ≡ true)
+    (put : List ℕ → Record → Record) (puts : (x : Call) (s v : List ℕ) → keeping (S.act (A x s)) v ≡ put v) where
+  abbrev pub HandSaid : Picked → List ℕ → Moved → Type 0
+  HandSaid p s m = m ≡ handedMove p (S.actOf (bareOf (p .stored)) (p .call .clock) (A (p .call) s))
 
   abbrev pub MadeSaid : Call → List ℕ → List ℕ → Type 0
-  MadeSaid c s v = v ≡ paddedOf (handedIn (A c s))
+  MadeSaid c s v = v ≡ keptIn (S.act (A c s))
+
+  abbrev pub PlacedSaid : List Record → Moved → List ℕ → Called → List Record → Type 0
+  PlacedSaid ys m v r zs = (r ≡ m .told) × (zs ≡ putAt (put v) (m .keep) ys)
 
   pub handed-follows : (ys : List Record) (c : Call) (s : List ℕ) (p : Picked) (us : List Record) (m : Moved) (v : List ℕ)
       (t : Called) (us₂ : List Record) (r : Called) (zs : List Record)
-      → PickSaid ys c p us → HandedSaid p s m → MadeSaid c s v → SettleSaid us m t us₂ → PutWordsSaid us₂ m v r zs
+      → PickSaid ys c p us → HandSaid p s m → MadeSaid c s v → SettleSaid us m t us₂ → PlacedSaid us₂ m v r zs
       → CallSays (onEntry (λ e. S.actOf e (c .clock) (A c s)) R.Entry (lent (c .gateway) ys) (c .clock) false (c .entry)) zs r
   handed-follows ys c s p us m v t us₂ r zs e₁ e₂ e e₃ e₄ =
       let a = A c s in
@@ -140,21 +158,23 @@ module _ (A : Call → List ℕ → S.Act) (silent : (x : Call) (s : List ℕ) �
       let k : isDone (o .answer) ≡ keeps (S.act a) (o .answer) = sym (and-true (isDone (o .answer)))
       ∙ ap (λ (b : Bool). isDone (o .answer) && b) (sym (hands c s)) in
       let g = act-moves ys c a (silent c s) m (isDone (o .answer))
-      (subst (λ (x : Picked). HandedSaid x s m) (e₁ .0) e₂) k in
+      (subst (λ (x : Picked). HandSaid x s m) (e₁ .0) e₂) k in
       let l = act-lands ys c a (silent c s) m v g (λ h. e) in
       record {
         told = e₄ .0 ∙ l .told;
-        left = e₄ .1 ∙ ap (wordsAt (m .keep) v) (e₃ .1 ∙ ap (λ (x : List Record). settled x m) (e₁ .1)) ∙ l .left;
+        left = e₄ .1 ∙ ap (λ (f : Record → Record). putAt f (m .keep) us₂) (sym (puts c s v))
+            ∙ ap (putAt (keeping (S.act a) v) (m .keep)) (e₃ .1 ∙ ap (λ (x : List Record). settled x m) (e₁ .1))
+            ∙ l .left;
       }
 
--- ---- calls that are lent an output and keep nothing, with these words
+-- ---- calls that are lent an output and keep nothing, with this handed over
 module _ (k : S.Call) (no-show : isShow k ≡ false) (none : (a : Answer) → keeps k a ≡ false) where
-  abbrev pub OutputSaid : Picked → List ℕ → List ℕ → Moved → List ℕ → Type 0
+  abbrev pub OutputSaid : Picked → Handed → List ℕ → Moved → List ℕ → Type 0
   OutputSaid p w out m out′ =
       StepMoves p (before p (isShort (length out)) R.Entry)
-      (S.stepOf (withWordBytes w (bareOf (p .stored))) (p .call .clock) k) false out out′ m
+      (S.stepOf (withHeld w (bareOf (p .stored))) (p .call .clock) k) false out out′ m
 
-  output-follows : (ys : List Record) (c : Call) (w out : List ℕ) (m : Moved) (out′ : List ℕ) (r : Called)
+  output-follows : (ys : List Record) (c : Call) (w : Handed) (out : List ℕ) (m : Moved) (out′ : List ℕ) (r : Called)
       (zs : List Record)
       → Reads (recordAt ys (c .entry)) (c .clock) k no-show w → OutputSaid (pickedOf ys c) w out m out′
       → SettleSaid ys m r zs
@@ -164,7 +184,7 @@ module _ (k : S.Call) (no-show : isShow k ≡ false) (none : (a : Answer) → ke
       let n = c .entry in
       let q = pickedOf ys c in
       let short = isShort (length out) in
-      let o = S.stepOf (withWordBytes w (bareOf (q .stored))) (c .clock) k in
+      let o = S.stepOf (withHeld w (bareOf (q .stored))) (c .clock) k in
       let g : m ≡ outcomeMove q (before q short R.Entry) o (keeps k (o .answer)) =
       e₂ .moves ∙ ap (outcomeMove q (before q short R.Entry) o) (sym (none (o .answer))) in
       record {
@@ -175,36 +195,37 @@ module _ (k : S.Call) (no-show : isShow k ≡ false) (none : (a : Answer) → ke
         output = e₂ .output ∙ ap (λ (z : List ℕ). over z out) (entry-writes ys c n k no-show w reads short R.Entry);
       }
 
--- a stop looks at no words
+-- a stop looks at nothing of it
 abbrev pub StopSaid : Picked → List ℕ → Moved → List ℕ → Type 0
-StopSaid p out m out′ = OutputSaid (S.act S.stop) refl (λ a. and-false (isDone a)) p noBytes out m out′
+StopSaid p out m out′ = OutputSaid (S.act S.stop) refl (λ a. and-false (isDone a)) p none-handed out m out′
 
 pub stop-follows : (ys : List Record) (c : Call) (out : List ℕ) (p : Picked) (us : List Record) (m : Moved)
     (out′ : List ℕ) (r : Called) (zs : List Record)
     → PickSaid ys c p us → StopSaid p out m out′ → SettleSaid us m r zs
     → OutputSays (stopIn (lent (c .gateway) ys) (c .clock) (length out) (c .entry)) zs out out′ r
 stop-follows ys c out p us m out′ r zs e₁ e₂ e₃ =
-    output-follows (S.act S.stop) refl (λ a. and-false (isDone a)) ys c noBytes out m out′ r zs
+    output-follows (S.act S.stop) refl (λ a. and-false (isDone a)) ys c none-handed out m out′ r zs
     (λ h. absurd (false≢true h)) (subst (λ (x : Picked). StopSaid x out m out′) (e₁ .0) e₂)
     (subst (λ (x : List Record). SettleSaid x m r zs) (e₁ .1) e₃)
 
--- in setup the words read are the record's
-words-read : (ys : List Record) (p : Picked) → isSetup (stateFrom (p .stored .state)) ≡ true
-    → handedAt ys p ≡ recordAt ys (p .spot) .words
-words-read ys p h =
-    ap (λ (i : ℕ). recordAt ys i .words) (cond-true (isSetup (stateFrom (p .stored .state))) (p .spot) (p .room) h)
+-- where S-RefreshReady is due, what is read is the record's
+handed-read : (ys : List Record) (p : Picked) → is (requestOf (stateFrom (p .stored .state))) K.RefreshReady ≡ true
+    → handedAt ys p ≡ handedOf (recordAt ys (p .spot))
+handed-read ys p h =
+    ap (λ (i : ℕ). handedOf (recordAt ys i))
+    (cond-true (is (requestOf (stateFrom (p .stored .state))) K.RefreshReady) (p .spot) (p .room) h)
 
-abbrev pub SendSaid : Picked → List ℕ → List ℕ → List ℕ → Moved → List ℕ → Type 0
+abbrev pub SendSaid : Picked → Handed → List ℕ → List ℕ → Moved → List ℕ → Type 0
 SendSaid p w value out m out′ = OutputSaid (S.send value) refl (λ a. refl) p w out m out′
 
-pub send-follows : (ys : List Record) (c : Call) (value out : List ℕ) (p : Picked) (us : List Record) (w : List ℕ)
+pub send-follows : (ys : List Record) (c : Call) (value out : List ℕ) (p : Picked) (us : List Record) (w : Handed)
     (us₂ : List Record) (m : Moved) (out′ : List ℕ) (r : Called) (zs : List Record)
-    → PickSaid ys c p us → WordsSaid us p w us₂ → SendSaid p w value out m out′ → SettleSaid us₂ m r zs
+    → PickSaid ys c p us → HandedSaid us p w us₂ → SendSaid p w value out m out′ → SettleSaid us₂ m r zs
     → OutputSays (sendIn (lent (c .gateway) ys) (c .clock) (length out) (c .entry) value) zs out out′ r
 send-follows ys c value out p us w us₂ m out′ r zs e₁ e e₂ e₃ =
     let is : w ≡ handedAt ys (pickedOf ys c) = e .0 ∙ (λ i. handedAt (e₁ .1 i) (e₁ .0 i)) in
     output-follows (S.send value) refl (λ a. refl) ys c w out m out′ r zs
-    (λ h. is ∙ words-read ys (pickedOf ys c) h) (subst (λ (x : Picked). SendSaid x w value out m out′) (e₁ .0) e₂)
+    (λ h. is ∙ handed-read ys (pickedOf ys c) h) (subst (λ (x : Picked). SendSaid x w value out m out′) (e₁ .0) e₂)
     (subst (λ (x : List Record). SettleSaid x m r zs) (e .1 ∙ e₁ .1) e₃)
 
 -- ---- show
@@ -298,7 +319,7 @@ absent-refused true true short absent x = (refl, refl)
 absent-refused true false true absent x = (refl, refl)
 absent-refused true false false absent x = (refl, refl)
 
-module _ (ys : List Record) (c : Call) (w s out out′ : List ℕ) (m : Moved) where
+module _ (ys : List Record) (c : Call) (w : Handed) (s out out′ : List ℕ) (m : Moved) where
   abbrev d : Lent
   d = lent (c .gateway) ys
 
@@ -360,7 +381,7 @@ module _ (ys : List Record) (c : Call) (w s out out′ : List ℕ) (m : Moved) w
     met-comes u =
         let k = S.deliver f body in
         let reads : Reads (recordAt ys i) (c .clock) k refl w =
-        λ h. u .1 ∙ words-read ys (picked (recordAt ys i .stored) c (length ys) i) h in
+        λ h. u .1 ∙ handed-read ys (picked (recordAt ys i .stored) c (length ys) i) h in
         record {
           lands = subst (λ (z : Moved). Lands ys c z (λ x. withValue x v) frame-in) (sym (u .0 .moves))
               (entry-lands ys c i k refl w reads short R.Unknown v (λ h. ap paddedOf (locates s f start end is .body)));
@@ -384,7 +405,7 @@ module _ (ys : List Record) (c : Call) (w s out out′ : List ℕ) (m : Moved) w
         let g = absent-refused reading shorter short R.Unknown x in
         let same : a ≡ a′ = absent-same reading shorter short (ltb i count) R.Unknown x y (outside h) in
         let k = step-refused (picked blank c (length ys) (length ys)) a
-        (S.stepOf (withWordBytes w (bareOf blank)) (c .clock) (S.deliver f body)) _ (g .0) u in
+        (S.stepOf (withHeld w (bareOf blank)) (c .clock) (S.deliver f body)) _ (g .0) u in
         subst Comes (sym (cond-false (isDone a′) _ (refusedOf a′ (c .clock) i d) (ap isDone (sym same) ∙ g .0)))
         (subst (λ (z : Answer). Comes (refusedOf z (c .clock) i d)) same
         (refused-comes blank (length ys) a i (g .1) (k .0) (k .1)))
@@ -467,9 +488,9 @@ module _ (ys : List Record) (c : Call) (w s out out′ : List ℕ) (m : Moved) w
       (λ h. subst Comes (sym (cond-false (eqb (length s) 0) none some h)) (by-reading (readingOf s) refl read (u .frame h)))
 
 pub deliver-follows : (ys : List Record) (c : Call) (s out : List ℕ) (k : Sought) (p : Picked) (us : List Record)
-    (w : List ℕ) (us₂ : List Record) (m : Moved) (out′ : List ℕ) (v : List ℕ) (t : Called) (us₃ : List Record) (r : Called)
+    (w : Handed) (us₂ : List Record) (m : Moved) (out′ : List ℕ) (v : List ℕ) (t : Called) (us₃ : List Record) (r : Called)
     (zs : List Record)
-    → k ≡ soughtOf c (connectionIn s) → SeekSaid ys k p us → WordsSaid us p w us₂ → DeliverMoves p w s out out′ m
+    → k ≡ soughtOf c (connectionIn s) → SeekSaid ys k p us → HandedSaid us p w us₂ → DeliverMoves p w s out out′ m
     → v ≡ paddedOf (bodyIn s) → SettleSaid us₂ m t us₃ → PutSaid us₃ m v r zs
     → OutputSays (deliverIn (lent (c .gateway) ys) (c .clock) (length out) s) zs out out′ r
 deliver-follows ys c s out k p us w us₂ m out′ v t us₃ r zs e₀ e₁ e₂ e₃ e e₄ e₅ =

@@ -22,11 +22,12 @@ starts t k (suc n) = startOf (fieldOf t k) ∷ starts t (suc k) n
 abbrev Lies : Data → ℕ → ℕ → ℕ → List ℕ → Type 0
 Lies d bytes by n at = (size (d .ty) ≡ bytes) × (align (d .ty) ≡ by) × (starts (d .ty) 0 n ≡ at)
 
-pub stored-lies : Lies stored 80 8 23
-    (0 ∷ 8 ∷ 12 ∷ 16 ∷ 20 ∷ 24 ∷ 28 ∷ 29 ∷ 30 ∷ 31 ∷ 32 ∷ 40 ∷ 48 ∷ 56 ∷ 64 ∷ 72 ∷ 73 ∷ 74 ∷ 75 ∷ 76 ∷ 77 ∷ 78 ∷ 79 ∷ [])
+pub stored-lies : Lies stored 88 8 25
+    (0 ∷ 8 ∷ 12 ∷ 16 ∷ 20 ∷ 24 ∷ 28 ∷ 29 ∷ 30 ∷ 31 ∷ 32 ∷ 40 ∷ 48 ∷ 56 ∷ 64 ∷ 72 ∷ 73 ∷ 74 ∷ 75 ∷ 76 ∷ 77 ∷ 78 ∷ 79 ∷ 80
+    ∷ 81 ∷ [])
 stored-lies = (refl, refl, refl)
 
-pub record-lies : Lies rec 280 8 3 (0 ∷ 80 ∷ 180 ∷ [])
+pub record-lies : Lies rec 344 8 4 (0 ∷ 88 ∷ 188 ∷ 288 ∷ [])
 record-lies = (refl, refl, refl)
 
 pub gateway-lies : Lies gateway 16 8 2 (0 ∷ 8 ∷ [])

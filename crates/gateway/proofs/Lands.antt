@@ -1,6 +1,6 @@
 -- What a call's own step moves is what the call comes to: its answer, and the records that it leaves.
 use mathlib.Core.Path.{_≡_, refl, sym, ap, subst, _∙_}
-use mathlib.Core.Bool.{Bool, true, false, _&&_, not, cond, Bool·beq, false≢true}
+use mathlib.Core.Bool.{Bool, true, false, _&&_, _||_, not, cond, Bool·beq, true≢false, false≢true}
 use mathlib.Core.List.{List, [], _∷_}
 use mathlib.Mathlib.Data.Bool.Basic.{and-elim-left, and-elim-right}
 use Prim.Native.Nat.{ℕ, zero, suc, _<_, _≤_}
@@ -21,15 +21,15 @@ use Rattle.endpoint.specs.Answers.{firstOf, isDone, isEnded, leftBy}
 use Rattle.endpoint.specs.Time.{isExpired, endedOf}
 use Rattle.transitions.specs.ByFrame.{refreshedOf}
 use Rattle.steps.specs.Frames.{bytesOf}
-use Rattle.steps.specs.Frames.{paddedOf}
+use Rattle.steps.specs.Frames.{paddedOf, paddedRecord}
 use Rattle.steps.specs.Calls.{Outcome, isFailSafe, shownOf}
 use Rattle.steps.specs.Deliveries.{refreshFaults, deliverOf}
 use Rattle.steps.specs.Says.{steppedOf}
 use Rattle.steps.specs.Steps as S
-use Rattle.steps.specs.Values.{withBytes, isShow, accepts, bodyIn, bytesAfter, withWordBytes, looks, handsOver, handedIn}
-use Rattle.steps.specs.Values.{wordsAfter, WordsLeft}
+use Rattle.steps.specs.Values.{withBytes, isShow, accepts, bodyIn, bytesAfter, withHanded, looks, handsWords}
+use Rattle.steps.specs.Values.{handsRecord, handedIn, wordsAfter, recordAfter, HandedLeft}
 use Rattle.steps.proofs.Values.{values}
-use Rattle.steps.proofs.WordsKept.{words-laws}
+use Rattle.steps.proofs.HandedKept.{handed-laws}
 use Rattle.steps.proofs.Dispatch.{cond-true, cond-false, deliver-echo, deliver-refresh}
 use Rattle.steps.proofs.Keeps.{bcase}
 use Rattle.records.specs.declared.Stored.{Stored}
@@ -39,12 +39,14 @@ use Rattle.records.proofs.Records.{records}
 use Rattle.lent.specs.First.{onFirst, length-first, getD-below, set-past}
 use Rattle.gateway.specs.declared.Call.{Call}
 use Rattle.gateway.specs.declared.Picked.{Picked}
+use Rattle.gateway.specs.declared.Handed.{Handed}
 use Rattle.gateway.specs.declared.Moved.{Moved}
 use Rattle.gateway.specs.Tables.{Lent, lent, recordAt, blankRecord, endpointAt, ticked, clockStep}
 use Rattle.gateway.specs.Tables.{isReading, atClock}
 use Rattle.gateway.specs.Calls.{Absent, At, Result, admit, admitEntry, actedOf, refusedOf, onEntry, shownIn, calledBy}
 use Rattle.gateway.specs.Calls.{calledOf, isNamed, entryNumber}
-use Rattle.gateway.specs.Parts.{withStored, withValue, withWords, storedAt, valueAt, picked, opens, steppedRecord}
+use Rattle.gateway.specs.Parts.{withStored, withValue, withWords, withErrorInfo, storedAt, valueAt, picked}
+use Rattle.gateway.specs.Parts.{withHeld, handedOf, opens, steppedRecord}
 use Rattle.gateway.specs.Parts.{settled, before, refusedMove, actedMove, shownMove, outcomeMove}
 
 -- ---- stores into a list
@@ -71,14 +73,14 @@ put-over put xs n room r false h past =
 -- ---- what a call's own step makes of a record
 -- the value is left, or wiped where none is taken
 abbrev settledRecord : Record → Stored → Bool → Record
-settledRecord r s taken = recordWith s (cond taken (r .value) noBytes) (r .words)
+settledRecord r s taken = recordWith s (cond taken (r .value) noBytes) (r .words) (r .errorinfo)
 
 wiped : (r : Record) (s : Stored) (taken : Bool)
     → cond taken (withStored r s) (withValue (withStored r s) noBytes) ≡ settledRecord r s taken
 wiped r s true = refl
 wiped r s false = refl
 
--- its stored part; then what it keeps, a new value or new words
+-- its stored part; then what it keeps, a new value or what was handed over
 fields : (put : Record → Record) (xs : List Record) (n room : ℕ) (s : Stored) (taken kept : Bool) → n < length xs
     → length xs ≤ room
     → putAt put (cond kept n room) (valueAt (cond taken room n) noBytes (storedAt n s xs))
@@ -99,24 +101,38 @@ fields put xs n room s taken kept h past =
     turned true x y = refl
     turned false x y = refl
 
--- ---- what a call keeps of what it is lent: a value that was accepted, or the words handed over
+-- ---- what a call keeps of what it is lent: a value that was accepted, the words or the error record handed over
 abbrev pub keeps : S.Call → Answer → Bool
-keeps (S.act x) a = isDone a && handsOver x
+keeps (S.act x) a = isDone a && (handsWords x || handsRecord x)
 keeps (S.send value) a = false
 keeps (S.deliver f body) a = isDone a && is (f .command) K.Refresh
 keeps S.show a = false
 
 abbrev pub keptIn : S.Call → List ℕ
-keptIn (S.act x) = handedIn x
+keptIn (S.act x) = cond (handsRecord x) (paddedRecord (handedIn x)) (paddedOf (handedIn x))
 keptIn (S.send value) = []
-keptIn (S.deliver f body) = body
+keptIn (S.deliver f body) = paddedOf body
 keptIn S.show = []
 
 abbrev pub keeping : S.Call → List ℕ → Record → Record
-keeping (S.act x) v r = withWords r v
+keeping (S.act x) v r = cond (handsRecord x) (withErrorInfo r v) (withWords r v)
 keeping (S.send value) v r = r
 keeping (S.deliver f body) v r = withValue r v
 keeping S.show v r = r
+
+-- no act hands over both
+not-both : (x : S.Act) → (handsWords x && handsRecord x) ≡ false
+not-both S.start = refl
+not-both S.stop = refl
+not-both S.restart = refl
+not-both (S.setNotReady b) = refl
+not-both (S.setResult body) = refl
+not-both S.clearResult = refl
+not-both (S.setRecord body) = refl
+not-both S.clearRecord = refl
+not-both (S.invoke word bytes) = refl
+not-both S.readError = refl
+not-both (S.writeError body) = refl
 
 -- a value that is accepted is taken
 left-taken : (a : Answer) (x y z : Endpoint) → isDone a ≡ true → z .value .taken ≡ true → leftBy a x y z .value .taken ≡ true
@@ -150,37 +166,49 @@ module _ (a : Answer) (r : Record) (s : Stored) (v held : List ℕ) where
   Made k taken =
       cond (keeps k a) (keeping k v (settledRecord r s taken)) (settledRecord r s taken)
       ≡ recordWith s (cond taken (cond (accepts k a) (paddedOf (bodyIn k)) held) noBytes) (wordsAfter k a (r .words))
+      (recordAfter k a (r .errorinfo))
 
   -- the value stays, or is wiped
   stays : (taken : Bool) → (taken ≡ true → held ≡ r .value) → cond taken (r .value) noBytes ≡ cond taken held noBytes
   stays true h = sym (h refl)
   stays false h = refl
 
-  hands : (b taken : Bool) (w : List ℕ) → (b ≡ true → v ≡ w) → (taken ≡ true → held ≡ r .value)
-      → cond b (withWords (settledRecord r s taken) v) (settledRecord r s taken)
-      ≡ recordWith s (cond taken held noBytes) (cond b w (r .words))
-  hands true taken w e h = (λ i. recordWith s (stays taken h i) (e refl i))
-  hands false taken w e h = ap (λ (x : List ℕ). recordWith s x (r .words)) (stays taken h)
+  -- d done, p words, q an error record
+  hands : (d p q taken : Bool) (w x : List ℕ) → (p && q) ≡ false → ((d && (p || q)) ≡ true → v ≡ cond q x w)
+      → (taken ≡ true → held ≡ r .value)
+      → let y = settledRecord r s taken in
+      cond (d && (p || q)) (cond q (withErrorInfo y v) (withWords y v)) y
+      ≡ recordWith s (cond taken held noBytes) (cond (d && p) w (r .words)) (cond (d && q) x (r .errorinfo))
+  hands false p q taken w x n e h = λ i. recordWith s (stays taken h i) (r .words) (r .errorinfo)
+  hands true true true taken w x n e h = absurd (true≢false n)
+  hands true true false taken w x n e h = λ i. recordWith s (stays taken h i) (e refl i) (r .errorinfo)
+  hands true false true taken w x n e h = λ i. recordWith s (stays taken h i) (r .words) (e refl i)
+  hands true false false taken w x n e h = λ i. recordWith s (stays taken h i) (r .words) (r .errorinfo)
 
   takes : (b taken : Bool) (w : List ℕ) → (b ≡ true → v ≡ w) → (b ≡ true → taken ≡ true)
       → (taken ≡ true → b ≡ false → held ≡ r .value)
       → cond b (withValue (settledRecord r s taken) v) (settledRecord r s taken)
-      ≡ recordWith s (cond taken (cond b w held) noBytes) (r .words)
-  takes true true w e t h = ap (λ (x : List ℕ). recordWith s x (r .words)) (e refl)
+      ≡ recordWith s (cond taken (cond b w held) noBytes) (r .words) (r .errorinfo)
+  takes true true w e t h = ap (λ (x : List ℕ). recordWith s x (r .words) (r .errorinfo)) (e refl)
   takes true false w e t h = absurd (false≢true (t refl))
-  takes false taken w e t h = ap (λ (x : List ℕ). recordWith s x (r .words)) (stays taken (λ q. h q refl))
+  takes false taken w e t h =
+      ap (λ (x : List ℕ). recordWith s x (r .words) (r .errorinfo)) (stays taken (λ q. h q refl))
 
-  made : (k : S.Call) (taken : Bool) → (keeps k a ≡ true → v ≡ paddedOf (keptIn k))
+  made : (k : S.Call) (taken : Bool) → (keeps k a ≡ true → v ≡ keptIn k)
       → (accepts k a ≡ true → taken ≡ true) → (taken ≡ true → accepts k a ≡ false → held ≡ r .value) → Made k taken
-  made (S.act x) taken e t h = hands (isDone a && handsOver x) taken (paddedOf (handedIn x)) e (λ q. h q refl)
-  made (S.send value) taken e t h = ap (λ (x : List ℕ). recordWith s x (r .words)) (stays taken (λ q. h q refl))
+  made (S.act x) taken e t h =
+      hands (isDone a) (handsWords x) (handsRecord x) taken (paddedOf (handedIn x)) (paddedRecord (handedIn x)) (not-both x) e
+      (λ q. h q refl)
+  made (S.send value) taken e t h =
+      ap (λ (x : List ℕ). recordWith s x (r .words) (r .errorinfo)) (stays taken (λ q. h q refl))
   made (S.deliver f body) taken e t h = takes (isDone a && is (f .command) K.Refresh) taken (paddedOf body) e t h
-  made S.show taken e t h = ap (λ (x : List ℕ). recordWith s x (r .words)) (stays taken (λ q. h q refl))
+  made S.show taken e t h =
+      ap (λ (x : List ℕ). recordWith s x (r .words) (r .errorinfo)) (stays taken (λ q. h q refl))
 
--- ---- a step on a record's stored part and these words, and on its whole endpoint: the same, but for the bytes left
-module _ (rec : Record) (t : ℕ) (k : S.Call) (quiet : isShow k ≡ false) (w : List ℕ) where
+-- ---- a step on a record's stored part with w handed over, and on its whole endpoint: the same, but for the bytes left
+module _ (rec : Record) (t : ℕ) (k : S.Call) (quiet : isShow k ≡ false) (w : Handed) where
   abbrev begun : Endpoint
-  begun = withWordBytes w (bareOf (rec .stored))
+  begun = withHeld w (bareOf (rec .stored))
 
   abbrev byValue : Outcome
   byValue = S.stepOf begun t k
@@ -188,38 +216,42 @@ module _ (rec : Record) (t : ℕ) (k : S.Call) (quiet : isShow k ≡ false) (w :
   abbrev own : Outcome
   own = S.stepOf (endpointOf rec) t k
 
-  -- with the record's words, but without its value
+  -- with what the record has of it, but without its value
+  abbrev handing : Endpoint
+  handing = withHeld (handedOf rec) (bareOf (rec .stored))
+
   abbrev worded : Outcome
-  worded = S.stepOf (withWordBytes (rec .words) (bareOf (rec .stored))) t k
+  worded = S.stepOf handing t k
 
   pub record OwnLeft : Type 0 where
     pub answered : own .answer ≡ byValue .answer
     pub writes : own .writes ≡ byValue .writes
     pub left : own .endpoint ≡ withBytes (bytesAfter k byValue (heldIn rec))
-        (withWordBytes (wordsAfter k (byValue .answer) (rec .words)) (byValue .endpoint))
+        (withHanded (wordsAfter k (byValue .answer) (rec .words)) (recordAfter k (byValue .answer) (rec .errorinfo))
+        (byValue .endpoint))
     -- a value that is neither new nor wiped was there
     pub there : byValue .endpoint .value .taken ≡ true → accepts k (byValue .answer) ≡ false → heldIn rec ≡ rec .value
 
-  -- they are the record's, or the call does not look at them
+  -- it is the record's, or the call does not look at it
   abbrev pub Reads : Type 0
-  Reads = looks begun k ≡ true → w ≡ rec .words
+  Reads = looks begun k ≡ true → w ≡ handedOf rec
 
-  words-left : Reads → WordsLeft k (rec .words) byValue worded
-  words-left reads =
+  handed-left : Reads → HandedLeft k (rec .words) (rec .errorinfo) byValue worded
+  handed-left reads =
       bcase (looks begun k)
-      (λ h. subst (λ (v : List ℕ). WordsLeft k (rec .words) (S.stepOf (withWordBytes v (bareOf (rec .stored))) t k) worded)
+      (λ h. subst (λ (v : Handed). HandedLeft k (rec .words) (rec .errorinfo)
+      (S.stepOf (withHeld v (bareOf (rec .stored))) t k) worded)
       (sym (reads h)) (record {
         answered = refl;
         writes = refl;
-        left = ap (λ (v : List ℕ). withWordBytes v (worded .endpoint))
-            (words-laws .left (withWordBytes (rec .words) (bareOf (rec .stored))) t k);
+        left = λ i. withHanded (handed-laws .words handing t k i) (handed-laws .errorinfo handing t k i) (worded .endpoint);
       }))
-      (λ h. words-laws .apart begun t k (rec .words) h)
+      (λ h. handed-laws .apart begun t k (rec .words) (rec .errorinfo) h)
 
   own-left : Reads → OwnLeft
   own-left reads =
-      let u = words-left reads in
-      let l = values (withWordBytes (rec .words) (bareOf (rec .stored))) t k (heldIn rec) quiet (records .tidy rec) in
+      let u = handed-left reads in
+      let l = values handing t k (heldIn rec) quiet (records .tidy rec) in
       let taken : worded .endpoint .value .taken ≡ byValue .endpoint .value .taken =
       ap (λ (e : Endpoint). e .value .taken) (u .left) in
       record {
@@ -317,7 +349,7 @@ module _ (ys : List Record) (c : Call) where
         }
 
   -- ---- the connection's own step
-  module _ (n : ℕ) (k : S.Call) (quiet : isShow k ≡ false) (w : List ℕ) (reads : Reads (recordAt ys n) t k quiet w) where
+  module _ (n : ℕ) (k : S.Call) (quiet : isShow k ≡ false) (w : Handed) (reads : Reads (recordAt ys n) t k quiet w) where
     abbrev rec : Record
     rec = recordAt ys n
 
@@ -342,7 +374,7 @@ module _ (ys : List Record) (c : Call) where
         ∙ cond-false (isExpired (endpointOf rec) t) _ rec x
 
     pub acted-lands : (v : List ℕ) → n < c .gateway .count → n < length ys → isExpired (endpointOf rec) t ≡ false
-        → (kept ≡ true → v ≡ paddedOf (keptIn k))
+        → (kept ≡ true → v ≡ keptIn k)
         → Lands move (keeping k v) (actedOf (own rec t k quiet w) t n d)
     unfolding clockStep
     acted-lands v h i x e =
@@ -380,7 +412,7 @@ module _ (ys : List Record) (c : Call) where
           let i = ltb-true n (c .gateway .count) (x .entry) in
           (i, omega (arith, l, i), x .timely)
 
-      pub entry-lands : (v : List ℕ) → (kept ≡ true → v ≡ paddedOf (keptIn k)) → Lands whole-move (keeping k v) comes
+      pub entry-lands : (v : List ℕ) → (kept ≡ true → v ≡ keptIn k) → Lands whole-move (keeping k v) comes
       unfolding endpointAt
       entry-lands v e =
           bcase (isDone answer)

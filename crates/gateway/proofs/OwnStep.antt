@@ -16,11 +16,11 @@ use Rattle.endpoint.specs.declared.Reason.the-variants as R
 use Rattle.endpoint.specs.declared.Answer.{Answer}
 use Rattle.endpoint.specs.declared.Answer.the-variants.{Done, Dropped}
 use Rattle.endpoint.specs.Answers.{firstOf, isDone}
-use Rattle.transitions.specs.ByCall.{queuedOf}
+use Rattle.transitions.specs.ByCall.{invokedOf}
 use Rattle.steps.specs.declared.Stepped.{Stepped}
 use Rattle.steps.specs.declared.Shown.{Shown}
 use Rattle.steps.specs.Frames.{nothing, bytesOf}
-use Rattle.steps.specs.Calls.{Outcome, outcome, dropped, handFaults, resultWith, queueWith, commandData, shownOf}
+use Rattle.steps.specs.Calls.{Outcome, outcome, dropped, handFaults, resultWith, invokeWith, commandData, shownOf}
 use Rattle.steps.specs.Says.{withRoom, steppedOf, plainStep, StepSays, shownTo, ShowSays}
 use Rattle.steps.proofs.Dispatch.{cond-true, cond-false}
 use Rattle.gateway.specs.declared.Picked.{Picked}
@@ -42,10 +42,10 @@ result-same e n b b′ =
     let a = firstOf (handFaults (e .settings .slave) n) in
     either-same (isDone a) (withWords (wordsOf (n / 4) b) e) (withWords (wordsOf (n / 4) b′) e) e a refl
 
-pub queue-same : (e : Endpoint) (n : ℕ) (b b′ : List ℕ) → plainStep (queueWith e n b) ≡ plainStep (queueWith e n b′)
-queue-same e n b b′ =
+pub invoke-same : (e : Endpoint) (n : ℕ) (b b′ : List ℕ) → plainStep (invokeWith e n b) ≡ plainStep (invokeWith e n b′)
+invoke-same e n b b′ =
     let a = firstOf (handFaults (mayQueue e) n) in
-    either-same (isDone a) (queuedOf e (wordsOf (n / 4) b)) (queuedOf e (wordsOf (n / 4) b′)) e a refl
+    either-same (isDone a) (invokedOf e (wordsOf (n / 4) b)) (invokedOf e (wordsOf (n / 4) b′)) e a refl
 
 pub command-length : (word : ℕ) (bytes : List ℕ) → 4 + length bytes ≡ length (commandData word bytes)
 command-length word bytes = sym (length-append (wordBytes word) bytes)

@@ -7,8 +7,9 @@ use Rattle.gateway.specs.declared.Call.{Call}
 use Rattle.gateway.specs.declared.Called.{Called}
 use Rattle.gateway.specs.declared.Sought.{Sought}
 use Rattle.gateway.specs.declared.Picked.{Picked}
+use Rattle.gateway.specs.declared.Handed.{Handed}
 use Rattle.gateway.specs.declared.Moved.{Moved}
-use Rattle.gateway.specs.Parts.{pickedOf, heldAt, handedAt, metOf, settled, valueAt, wordsAt}
+use Rattle.gateway.specs.Parts.{pickedOf, heldAt, handedAt, metOf, settled, valueAt, wordsAt, errorInfoAt}
 
 abbrev pub PickSaid : List Record → Call → Picked → List Record → Type 0
 PickSaid ys c p us = (p ≡ pickedOf ys c) × (us ≡ ys)
@@ -16,8 +17,8 @@ PickSaid ys c p us = (p ≡ pickedOf ys c) × (us ≡ ys)
 abbrev pub ReadSaid : List Record → Call → List ℕ → List Record → Type 0
 ReadSaid ys c v us = (v ≡ heldAt ys c) × (us ≡ ys)
 
-abbrev pub WordsSaid : List Record → Picked → List ℕ → List Record → Type 0
-WordsSaid ys p w us = (w ≡ handedAt ys p) × (us ≡ ys)
+abbrev pub HandedSaid : List Record → Picked → Handed → List Record → Type 0
+HandedSaid ys p w us = (w ≡ handedAt ys p) × (us ≡ ys)
 
 abbrev pub SeekSaid : List Record → Sought → Picked → List Record → Type 0
 SeekSaid ys k p us = (p ≡ metOf ys k) × (us ≡ ys)
@@ -30,3 +31,6 @@ PutSaid ys m v r zs = (r ≡ m .told) × (zs ≡ valueAt (m .keep) v ys)
 
 abbrev pub PutWordsSaid : List Record → Moved → List ℕ → Called → List Record → Type 0
 PutWordsSaid ys m w r zs = (r ≡ m .told) × (zs ≡ wordsAt (m .keep) w ys)
+
+abbrev pub PutErrorInfoSaid : List Record → Moved → List ℕ → Called → List Record → Type 0
+PutErrorInfoSaid ys m x r zs = (r ≡ m .told) × (zs ≡ errorInfoAt (m .keep) x ys)

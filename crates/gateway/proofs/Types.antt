@@ -11,7 +11,7 @@ use Rattle.lent.proofs.Load as load
 use Rattle.gateway.specs.declared.Gateway.{Gateway}
 use Rattle.gateway.specs.declared.Called.{Called}
 use Rattle.gateway.specs.Exports.{withGateway}
-use Rattle.gateway.specs.Parts.{withStored, withValue, withWords}
+use Rattle.gateway.specs.Parts.{withStored, withValue, withWords, withErrorInfo}
 use Rattle.records.proofs.Stored as F
 use Rattle.records.proofs.Stored.Laws as F′
 use Rattle.records.proofs.Record as R
@@ -24,6 +24,8 @@ use Rattle.gateway.proofs.Sought as C
 use Rattle.gateway.proofs.Sought.Laws as C′
 use Rattle.gateway.proofs.Picked as P
 use Rattle.gateway.proofs.Picked.Laws as P′
+use Rattle.gateway.proofs.Handed as H
+use Rattle.gateway.proofs.Handed.Laws as H′
 use Rattle.gateway.proofs.Moved as S
 use Rattle.gateway.proofs.Moved.Laws as S′
 use Rattle.gateway.proofs.Plan as L
@@ -52,6 +54,20 @@ value = of-array (of-uint w8) 100
 abbrev pub value-plain : Plain value
 value-plain = array-plain (of-uint w8) (uint-plain w8) 100
 
+-- the bytes of its error record
+abbrev pub errorinfo : Data
+errorinfo = of-array (of-uint w8) 56
+
+abbrev pub errorinfo-plain : Plain errorinfo
+errorinfo-plain = array-plain (of-uint w8) (uint-plain w8) 56
+
+-- what its user has handed over
+abbrev pub handed : Data
+handed = of-struct H.the-type H′.the-laws
+
+abbrev pub handed-plain : Plain handed
+handed-plain = struct-plain H.the-type H′.the-laws H′.the-plain
+
 -- where the fields lie
 abbrev pub stored-in : Inside rec stored
 stored-in = record {
@@ -69,7 +85,7 @@ stored-in = record {
 
 abbrev pub value-in : Inside rec value
 value-in =
-    array-in rec w8 100 1 80 (λ r. r .value) withValue refl (λ M 𝓤 H A K W t q b o r. sub t 1 refl (whole t))
+    array-in rec w8 100 1 88 (λ r. r .value) withValue refl (λ M 𝓤 H A K W t q b o r. sub t 1 refl (whole t))
     (λ r x. refl)
     (λ r is. LL.owed R.the-type R′.the-laws r _ is .1 .0)
     (λ r x is is-x. let w = LL.owed R.the-type R′.the-laws r _ is in
@@ -77,11 +93,20 @@ value-in =
 
 abbrev pub words-in : Inside rec value
 words-in =
-    array-in rec w8 100 2 180 (λ r. r .words) withWords refl (λ M 𝓤 H A K W t q b o r. sub t 2 refl (whole t))
+    array-in rec w8 100 2 188 (λ r. r .words) withWords refl (λ M 𝓤 H A K W t q b o r. sub t 2 refl (whole t))
     (λ r x. refl)
     (λ r is. LL.owed R.the-type R′.the-laws r _ is .1 .1 .0)
     (λ r x is is-x. let w = LL.owed R.the-type R′.the-laws r _ is in
     LL.owes R.the-type R′.the-laws (withWords r x) (w .0, (w .1 .0, (is-x, w .1 .1 .1))))
+
+abbrev pub errorinfo-in : Inside rec errorinfo
+errorinfo-in =
+    array-in rec w8 56 3 288 (λ r. r .errorinfo) withErrorInfo refl
+    (λ M 𝓤 H A K W t q b o r. sub t 3 refl (whole t))
+    (λ r x. refl)
+    (λ r is. LL.owed R.the-type R′.the-laws r _ is .1 .1 .1 .0)
+    (λ r x is is-x. let w = LL.owed R.the-type R′.the-laws r _ is in
+    LL.owes R.the-type R′.the-laws (withErrorInfo r x) (w .0, (w .1 .0, (w .1 .1 .0, (is-x, w .1 .1 .1 .1)))))
 
 abbrev pub call : Data
 call = of-struct N.the-type N′.the-laws
@@ -135,11 +160,11 @@ kinds = record {
   c-plain = uint-plain w64;
   s-plain = plains .s-plain;
   r-small = tt;
-  told-off = 80;
-  steps-off = 120;
-  clock-off = 128;
-  place-off = 136;
-  wipe-off = 144;
+  told-off = 88;
+  steps-off = 128;
+  clock-off = 136;
+  place-off = 144;
+  wipe-off = 152;
   core-at = refl;
   told-at = refl;
   steps-at = refl;

@@ -22,7 +22,7 @@ use Rattle.endpoint.specs.Time.{isExpired, afterTick}
 use Rattle.steps.specs.Frames.{Written, nothing, bytesOf}
 use Rattle.steps.specs.Frames as W
 use Rattle.steps.specs.Calls.{Outcome, startOf, sendOf, stopOf, restartOf, setNotReadyOf, setResultOf, clearResultOf}
-use Rattle.steps.specs.Calls.{invokeOf, isFailSafe, shownOf}
+use Rattle.steps.specs.Calls.{setRecordOf, clearRecordOf, invokeOf, readErrorOf, writeErrorOf, isFailSafe, shownOf}
 use Rattle.steps.specs.Deliveries.{deliverOf}
 use Rattle.records.specs.declared.Record.{Record}
 use Rattle.records.specs.Records.{flagOf, recordOf}
@@ -96,8 +96,8 @@ onEntry act absent d t short n =
 abbrev pub isShort : ℕ → Bool
 isShort room = ltb room 248
 
--- ---- start, send, stop, restart, set not ready, set and clear result, invoke: of what is lent, the clock reading, the
--- output's length, the entry
+-- ---- start, send, stop, restart, set not ready, set and clear result, set and clear record, invoke, read and write
+-- error: of what is lent, the clock reading, the output's length, the entry
 abbrev pub startIn : Lent → ℕ → ℕ → Result
 startIn d t n = onEntry (λ e. startOf e t) R.Entry d t false n
 
@@ -119,8 +119,20 @@ setResultIn d t n body = onEntry (λ e. setResultOf e body) R.Entry d t false n
 abbrev pub clearResultIn : Lent → ℕ → ℕ → Result
 clearResultIn d t n = onEntry (λ e. clearResultOf e) R.Entry d t false n
 
+abbrev pub setRecordIn : Lent → ℕ → ℕ → List ℕ → Result
+setRecordIn d t n body = onEntry (λ e. setRecordOf e body) R.Entry d t false n
+
+abbrev pub clearRecordIn : Lent → ℕ → ℕ → Result
+clearRecordIn d t n = onEntry (λ e. clearRecordOf e) R.Entry d t false n
+
 abbrev pub invokeIn : Lent → ℕ → ℕ → ℕ → List ℕ → Result
 invokeIn d t n word bytes = onEntry (λ e. invokeOf e word bytes) R.Entry d t false n
+
+abbrev pub readErrorIn : Lent → ℕ → ℕ → Result
+readErrorIn d t n = onEntry (λ e. readErrorOf e) R.Entry d t false n
+
+abbrev pub writeErrorIn : Lent → ℕ → ℕ → List ℕ → Result
+writeErrorIn d t n body = onEntry (λ e. writeErrorOf e body) R.Entry d t false n
 
 -- ---- show: never 9; what the clock step left is shown, and stays
 abbrev pub beforeShow : Lent → ℕ → Bool → ℕ → Answer

@@ -18,14 +18,14 @@ use Rattle.endpoint.specs.declared.Reason.the-variants as R
 use Rattle.endpoint.specs.declared.Answer.{Answer}
 use Rattle.endpoint.specs.declared.Answer.the-variants.{Done, Dropped}
 use Rattle.endpoint.specs.Answers.{isDone, isEnded}
-use Rattle.endpoint.specs.Table.{isSetup}
+use Rattle.endpoint.specs.Table.{requestOf}
 use Rattle.endpoint.specs.Time.{isExpired, afterTick}
 use Rattle.steps.specs.declared.Stepped.{Stepped}
 use Rattle.steps.specs.Frames.{nothing, bytesOf}
 use Rattle.steps.specs.Calls.{Outcome, outcome, isFailSafe, shownOf}
 use Rattle.steps.specs.Deliveries.{deliverOf}
 use Rattle.steps.specs.Says.{steppedOf, plainStep}
-use Rattle.steps.specs.Values.{withBytes, withWordBytes}
+use Rattle.steps.specs.Values.{withBytes, withHanded}
 use Rattle.settings.specs.Lists.{countOf, isList}
 use Rattle.records.specs.declared.Stored.{Stored}
 use Rattle.records.specs.declared.Record.{Record}
@@ -35,6 +35,7 @@ use Rattle.gateway.specs.declared.Call.{Call}
 use Rattle.gateway.specs.declared.Called.{Called}
 use Rattle.gateway.specs.declared.Sought.{Sought}
 use Rattle.gateway.specs.declared.Picked.{Picked}
+use Rattle.gateway.specs.declared.Handed.{Handed}
 use Rattle.gateway.specs.declared.Moved.{Moved}
 use Rattle.gateway.specs.declared.Plan.{Plan}
 use Rattle.gateway.specs.Tables.{blankRecord, recordAt, hasConnection, isReading, atClock}
@@ -43,13 +44,16 @@ use Rattle.gateway.specs.Calls.{admit, admitEntry, timely, isShort, reas
 
 -- ---- one field of a record replaced
 abbrev pub withStored : Record → Stored → Record
-withStored r s = recordWith s (r .value) (r .words)
+withStored r s = recordWith s (r .value) (r .words) (r .errorinfo)
 
 abbrev pub withValue : Record → List ℕ → Record
-withValue r bytes = recordWith (r .stored) bytes (r .words)
+withValue r bytes = recordWith (r .stored) bytes (r .words) (r .errorinfo)
 
 abbrev pub withWords : Record → List ℕ → Record
-withWords r bytes = recordWith (r .stored) (r .value) bytes
+withWords r bytes = recordWith (r .stored) (r .value) bytes (r .errorinfo)
+
+abbrev pub withErrorInfo : Record → List ℕ → Record
+withErrorInfo r bytes = recordWith (r .stored) (r .value) (r .words) bytes
 
 abbrev pub storedAt : ℕ → Stored → List Record → List Record
 storedAt n s rs = set rs n (withStored (recordAt rs n) s)
@@ -59,6 +63,9 @@ valueAt n bytes rs = set rs n (withValue (recordAt rs n) bytes)
 
 abbrev pub wordsAt : ℕ → List ℕ → List Record → List Record
 wordsAt n bytes rs = set rs n (withWords (recordAt rs n) bytes)
+
+abbrev pub errorInfoAt : ℕ → List ℕ → List Record → List Record
+errorInfoAt n bytes rs = set rs n (withErrorInfo (recordAt rs n) bytes)
 
 -- ---- what a call picks: by its entry, or by a frame's CID
 abbrev pub picked : Stored → Call → ℕ → ℕ → Picked
@@ -70,12 +77,22 @@ pickedOf rs c = picked (recordAt rs (c .entry) .stored) c (length rs) (c .entry)
 abbrev pub heldAt : List Record → Call → List ℕ
 heldAt rs c = recordAt rs (c .entry) .value
 
--- the words are looked at in setup alone; elsewhere what stands past the slice is taken for them
-abbrev pub wordsSpot : Picked → ℕ
-wordsSpot p = cond (isSetup (stateFrom (p .stored .state))) (p .spot) (p .room)
+-- what its user has handed over
+abbrev pub handed : List ℕ → List ℕ → Handed
+handed words errorinfo = record { words = words; errorinfo = errorinfo }
 
-abbrev pub handedAt : List Record → Picked → List ℕ
-handedAt rs p = recordAt rs (wordsSpot p) .words
+abbrev pub withHeld : Handed → Endpoint → Endpoint
+withHeld h e = withHanded (h .words) (h .errorinfo) e
+
+-- it is looked at where S-RefreshReady is due alone; elsewhere what stands past the slice is taken for it
+abbrev pub handedSpot : Picked → ℕ
+handedSpot p = cond (is (requestOf (stateFrom (p .stored .state))) K.RefreshReady) (p .spot) (p .room)
+
+abbrev pub handedOf : Record → Handed
+handedOf r = handed (r .words) (r .errorinfo)
+
+abbrev pub handedAt : List Record → Picked → Handed
+handedAt rs p = handedOf (recordAt rs (handedSpot p))
 
 abbrev pub soughtOf : Call → ℕ → Sought
 soughtOf c cid = record { call = c; connection = cid }
@@ -146,7 +163,8 @@ module _ (p : Picked) where
       (cond (isEnded a) (p .spot) 0) 0 false)
       opens (p .room) (p .room) (p .room)
 
-  -- the connection's own step: its stored part; the value is wiped where none is taken, and a new one kept, or words
+  -- the connection's own step: its stored part; the value is wiped where none is taken, and a new one kept, or what was
+  -- handed over
   abbrev pub actedMove : Stepped → Bool → Moved
   actedMove s kept =
       moved (storedOf (bare (s .core)))
@@ -164,7 +182,7 @@ module _ (p : Picked) where
   abbrev pub plainMove : Answer → Stepped → Bool → Moved
   plainMove a s kept = cond (isDone a) (actedMove s kept) (refusedMove a)
 
-  -- a call that hands words over, kept where it is done
+  -- a call that hands words or an error record over, kept where it is done
   abbrev pub handedMove : Outcome → Moved
   handedMove o = plainMove (before false R.Entry) (plainStep o) (isDone (o .answer))
 
@@ -191,11 +209,11 @@ module _ (p : Picked) where
         (refusedMove (showAnswer (isShort (length out))))
     pub output : out′ ≡ over (cond (isDone (showAnswer (isShort (length out)))) (shownOf (toShow bytes)) []) out
 
-  -- a deliver, where the words are w
-  abbrev pub frameOutcome : List ℕ → List ℕ → Reading → Outcome
+  -- a deliver, where w has been handed over
+  abbrev pub frameOutcome : Handed → List ℕ → Reading → Outcome
   frameOutcome w s (Refused fault) = outcome Done (bareOf (p .stored)) nothing
   frameOutcome w s (Frame f start end) =
-      deliverOf (withWordBytes w (bareOf (p .stored))) (p .call .clock) f (slice start end s)
+      deliverOf (withHeld w (bareOf (p .stored))) (p .call .clock) f (slice start end s)
 
   abbrev pub frameAnswer : Bool → Reading → Answer
   frameAnswer short (Refused fault) = admitted short (Dropped (reasonOf fault))
@@ -206,7 +224,7 @@ module _ (p : Picked) where
   acceptsValue (Frame f start end) a = isDone a && is (f .command) K.Refresh
 
   -- what a frame does, or bytes that are none
-  abbrev pub FrameMoves : List ℕ → List ℕ → Reading → List ℕ → List ℕ → Moved → Type 0
+  abbrev pub FrameMoves : Handed → List ℕ → Reading → List ℕ → List ℕ → Moved → Type 0
   FrameMoves w s r out out′ m =
       StepMoves (frameAnswer (isShort (length out)) r) (frameOutcome w s r)
       (acceptsValue r (frameOutcome w s r .answer)) out out′ m
@@ -216,7 +234,7 @@ module _ (p : Picked) where
     pub output : out′ ≡ out
 
   -- an empty cycle, or a frame
-  pub record DeliverMoves (w s out out′ : List ℕ) (m : Moved) : Type 0 where
+  pub record DeliverMoves (w : Handed) (s out out′ : List ℕ) (m : Moved) : Type 0 where
     pub empty : eqb (length s) 0 ≡ true → EmptyMoves out out′ m
     pub frame : eqb (length s) 0 ≡ false → FrameMoves w s (readingOf s) out out′ m
 

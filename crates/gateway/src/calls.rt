@@ -1,20 +1,23 @@
-// The calls that name an entry: start, restart, set_not_ready, clear_result, set_result, invoke, stop, send, show.
+// The calls that name an entry: start, restart, set_not_ready, set_result, clear_result, set_record, clear_record, invoke,
+// read_error, write_error, stop, send, show.
 ghost use mathlib.Core.Path.{_≡_};
 ghost use mathlib.Core.Bool.{false};
 ghost use lib.ListN.{length};
 ghost use Rattle.endpoint.specs.declared.Reason.the-variants as R;
-ghost use Rattle.steps.specs.Frames.{paddedOf};
+ghost use Rattle.steps.specs.Frames.{paddedOf, paddedRecord};
 ghost use Rattle.steps.specs.Calls.{startOf, sendOf, stopOf, restartOf, setNotReadyOf, setResultOf};
-ghost use Rattle.steps.specs.Calls.{clearResultOf, commandData, invokeOf};
+ghost use Rattle.steps.specs.Calls.{clearResultOf, setRecordOf, clearRecordOf, commandData, invokeOf, readErrorOf};
+ghost use Rattle.steps.specs.Calls.{writeErrorOf};
 ghost use Rattle.steps.specs.Says.{plainStep};
-ghost use Rattle.steps.specs.Values.{withWordBytes};
 ghost use Rattle.records.specs.Records.{isSet, bareOf};
 ghost use Rattle.gateway.specs.Tables.{lent};
 ghost use Rattle.gateway.specs.Calls.{isShort, startIn, sendIn, stopIn, restartIn, setNotReadyIn, setResultIn};
-ghost use Rattle.gateway.specs.Calls.{clearResultIn, invokeIn, showIn, CallSays, OutputSays};
-ghost use Rattle.gateway.specs.Parts.{before, plainMove, handedMove, StepMoves, ShowMoves};
+ghost use Rattle.gateway.specs.Calls.{clearResultIn, setRecordIn, clearRecordIn, invokeIn, readErrorIn};
+ghost use Rattle.gateway.specs.Calls.{writeErrorIn, showIn, CallSays, OutputSays};
+ghost use Rattle.gateway.specs.Parts.{before, withHeld, plainMove, handedMove, StepMoves, ShowMoves};
 use super::Call;
 use super::Called;
+use super::Handed;
 use super::Moved;
 use super::Picked;
 use super::moves::acted;
@@ -23,11 +26,12 @@ use super::moves::before;
 use super::moves::plain;
 use super::moves::refused;
 use super::moves::shown;
+use super::slice::handed_at;
 use super::slice::pick;
+use super::slice::put_error_info;
 use super::slice::put_words;
 use super::slice::settle;
 use super::slice::value_at;
-use super::slice::words_at;
 use endpoint::Answer;
 use endpoint::Reason;
 use endpoint::answers::is_done;
@@ -37,6 +41,7 @@ use records::Record;
 use records::core_of;
 use steps::queue::command_data;
 use steps::queue::padded;
+use steps::queue::padded_record;
 
 // ---- each call's own step, by value
 
@@ -87,7 +92,41 @@ fn do_invoke(p: Picked, bytes: &[u8]) -> Moved
     ensures { λ r. ⌜ r ≡ handedMove p (invokeOf (bareOf (p .stored)) (p .call .word) (now (bytes .entry))) ⌝ }
 {
     let stored = p.stored;
-    let step = steps::queue::queue(core_of(stored), 4 + bytes.len());
+    let step = steps::queue::invoke(core_of(stored), 4 + bytes.len());
+    let answer = step.answer;
+    plain(before(p, false, Reason::Entry), step, is_done(answer), p)
+}
+
+fn do_clear_record(p: Picked) -> Moved
+    ensures { λ r. ⌜ r ≡ plainMove p (before p false R.Entry) (plainStep (clearRecordOf (bareOf (p .stored)))) false ⌝ }
+{
+    let stored = p.stored;
+    let step = steps::station::clear_record(core_of(stored));
+    plain(before(p, false, Reason::Entry), step, false, p)
+}
+
+fn do_set_record(p: Picked, bytes: &[u8]) -> Moved
+    ensures { λ r. ⌜ r ≡ handedMove p (setRecordOf (bareOf (p .stored)) (now (bytes .entry))) ⌝ }
+{
+    let stored = p.stored;
+    let step = steps::station::set_record(core_of(stored), bytes);
+    let answer = step.answer;
+    plain(before(p, false, Reason::Entry), step, is_done(answer), p)
+}
+
+fn do_read_error(p: Picked) -> Moved
+    ensures { λ r. ⌜ r ≡ plainMove p (before p false R.Entry) (plainStep (readErrorOf (bareOf (p .stored)))) false ⌝ }
+{
+    let stored = p.stored;
+    let step = steps::queue::read_error(core_of(stored));
+    plain(before(p, false, Reason::Entry), step, false, p)
+}
+
+fn do_write_error(p: Picked, bytes: &[u8]) -> Moved
+    ensures { λ r. ⌜ r ≡ handedMove p (writeErrorOf (bareOf (p .stored)) (now (bytes .entry))) ⌝ }
+{
+    let stored = p.stored;
+    let step = steps::queue::write_error(core_of(stored), bytes);
     let answer = step.answer;
     plain(before(p, false, Reason::Entry), step, is_done(answer), p)
 }
@@ -105,6 +144,12 @@ fn command_of(c: Call, bytes: &[u8]) -> [u8; 100]
     command_data(c.word, bytes)
 }
 
+fn record_of(c: Call, bytes: &[u8]) -> [u8; 56]
+    ensures { λ r. ⌜ r ≡ paddedRecord (now (bytes .entry)) ⌝ }
+{
+    padded_record(bytes)
+}
+
 fn do_stop(p: Picked, out: &mut [u8]) -> Moved
     ensures { λ r. ⌜ StepMoves p (before p (isShort (length (now (out .entry)))) R.Entry)
         (stopOf (bareOf (p .stored)) (p .call .clock)) false (now (out .entry)) (now (out .exit)) r ⌝ }
@@ -118,10 +163,10 @@ fn do_stop(p: Picked, out: &mut [u8]) -> Moved
     acted(step, false, p)
 }
 
-// Its user's words are w.
-fn do_send(p: Picked, w: [u8; 100], value: &[u8], out: &mut [u8]) -> Moved
+// Its user has handed over h.
+fn do_send(p: Picked, h: Handed, value: &[u8], out: &mut [u8]) -> Moved
     ensures { λ r. ⌜ StepMoves p (before p (isShort (length (now (out .entry)))) R.Entry)
-        (sendOf (withWordBytes w (bareOf (p .stored))) (p .call .clock) (now (value .entry))) false
+        (sendOf (withHeld h (bareOf (p .stored))) (p .call .clock) (now (value .entry))) false
         (now (out .entry)) (now (out .exit)) r ⌝ }
 {
     let a = before(p, out.len() < LONGEST_FRAME, Reason::Entry);
@@ -129,7 +174,16 @@ fn do_send(p: Picked, w: [u8; 100], value: &[u8], out: &mut [u8]) -> Moved
         return refused(a, p);
     }
     let stored = p.stored;
-    let step = steps::send::send(core_of(stored), &w, p.call.clock, value, out);
+    let words = h.words;
+    let errorinfo = h.errorinfo;
+    let step = steps::send::send(
+        core_of(stored),
+        &words,
+        &errorinfo,
+        p.call.clock,
+        value,
+        out,
+    );
     acted(step, false, p)
 }
 
@@ -197,6 +251,48 @@ pub fn clear_result(rs: &mut [Record], c: Call) -> Called
     settle(rs, m)
 }
 
+// A station's user sets its error record: a slave's, in any state.
+pub fn set_record(rs: &mut [Record], c: Call, bytes: &[u8]) -> Called
+    ensures { λ r. ⌜ CallSays (setRecordIn (lent (c .gateway) (now (rs .entry))) (c .clock) (c .entry) (now (bytes .entry)))
+        (now (rs .exit)) r ⌝ }
+{
+    let p = pick(rs, c);
+    let m = do_set_record(p, bytes);
+    let v = record_of(c, bytes);
+    let t = settle(rs, m);
+    put_error_info(rs, m, v)
+}
+
+// And clears it.
+pub fn clear_record(rs: &mut [Record], c: Call) -> Called
+    ensures { λ r. ⌜ CallSays (clearRecordIn (lent (c .gateway) (now (rs .entry))) (c .clock) (c .entry)) (now (rs .exit)) r ⌝ }
+{
+    let p = pick(rs, c);
+    let m = do_clear_record(p);
+    settle(rs, m)
+}
+
+// A master's user queues S-ReadErrorInfo: in setup, until S-InvokeFunc has gone.
+pub fn read_error(rs: &mut [Record], c: Call) -> Called
+    ensures { λ r. ⌜ CallSays (readErrorIn (lent (c .gateway) (now (rs .entry))) (c .clock) (c .entry)) (now (rs .exit)) r ⌝ }
+{
+    let p = pick(rs, c);
+    let m = do_read_error(p);
+    settle(rs, m)
+}
+
+// A master's user queues S-WriteErrorInfo with an error record: in setup.
+pub fn write_error(rs: &mut [Record], c: Call, bytes: &[u8]) -> Called
+    ensures { λ r. ⌜ CallSays (writeErrorIn (lent (c .gateway) (now (rs .entry))) (c .clock) (c .entry) (now (bytes .entry)))
+        (now (rs .exit)) r ⌝ }
+{
+    let p = pick(rs, c);
+    let m = do_write_error(p, bytes);
+    let v = record_of(c, bytes);
+    let t = settle(rs, m);
+    put_error_info(rs, m, v)
+}
+
 // A master's user queues S-InvokeFunc, of the command word and 0 to 24 further words: in setup.
 pub fn invoke(rs: &mut [Record], c: Call, bytes: &[u8]) -> Called
     ensures { λ r. ⌜ CallSays (invokeIn (lent (c .gateway) (now (rs .entry))) (c .clock) (c .entry) (c .word)
@@ -225,8 +321,8 @@ pub fn send(rs: &mut [Record], c: Call, value: &[u8], out: &mut [u8]) -> Called
         (now (value .entry))) (now (rs .exit)) (now (out .entry)) (now (out .exit)) r ⌝ }
 {
     let p = pick(rs, c);
-    let w = words_at(rs, p);
-    let m = do_send(p, w, value, out);
+    let h = handed_at(rs, p);
+    let m = do_send(p, h, value, out);
     settle(rs, m)
 }
 

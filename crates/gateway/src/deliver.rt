@@ -8,6 +8,7 @@ ghost use Rattle.gateway.specs.Calls.{reasonOf, deliverIn, OutputSays};
 ghost use Rattle.gateway.specs.Parts.{soughtOf, DeliverMoves};
 use super::Call;
 use super::Called;
+use super::Handed;
 use super::Moved;
 use super::Picked;
 use super::Sought;
@@ -15,10 +16,10 @@ use super::moves::acted;
 use super::moves::admitted;
 use super::moves::before;
 use super::moves::refused;
+use super::slice::handed_at;
 use super::slice::put_value;
 use super::slice::seek;
 use super::slice::settle;
-use super::slice::words_at;
 use endpoint::Answer;
 use endpoint::Reason;
 use endpoint::answers::is_done;
@@ -56,9 +57,9 @@ fn hear(c: Call, bytes: &[u8]) -> Sought
 }
 
 // Zero bytes are nothing, other bytes a frame, or numbers 4 to 7. At a slave a request writes its reply, at a master the
-// reply to a queued command its result. Its user's words are w.
-fn do_deliver(p: Picked, w: [u8; 100], bytes: &[u8], out: &mut [u8]) -> Moved
-    ensures { λ r. ⌜ DeliverMoves p w (now (bytes .entry)) (now (out .entry)) (now (out .exit)) r ⌝ }
+// reply to a queued command its result, or the station's error record. Its user has handed over h.
+fn do_deliver(p: Picked, h: Handed, bytes: &[u8], out: &mut [u8]) -> Moved
+    ensures { λ r. ⌜ DeliverMoves p h (now (bytes .entry)) (now (out .entry)) (now (out .exit)) r ⌝ }
 {
     let short = out.len() < LONGEST_FRAME;
     if bytes.len() == 0 {
@@ -77,9 +78,12 @@ fn do_deliver(p: Picked, w: [u8; 100], bytes: &[u8], out: &mut [u8]) -> Moved
             }
             let stored = p.stored;
             let k = fields.command;
+            let words = h.words;
+            let errorinfo = h.errorinfo;
             let step = steps::deliver::deliver(
                 core_of(stored),
-                &w,
+                &words,
+                &errorinfo,
                 p.call.clock,
                 fields,
                 &bytes[start..end],
@@ -107,8 +111,8 @@ pub fn deliver(rs: &mut [Record], c: Call, bytes: &[u8], out: &mut [u8]) -> Call
 {
     let k = hear(c, bytes);
     let p = seek(rs, k);
-    let w = words_at(rs, p);
-    let m = do_deliver(p, w, bytes, out);
+    let h = handed_at(rs, p);
+    let m = do_deliver(p, h, bytes, out);
     let v = body_of(m, bytes);
     let t = settle(rs, m);
     put_value(rs, m, v)

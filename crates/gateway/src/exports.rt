@@ -5,20 +5,25 @@ ghost use lib.ListN.{length};
 ghost use Rattle.records.specs.Records.{isSet};
 ghost use Rattle.gateway.specs.Tables.{lent};
 ghost use Rattle.gateway.specs.Calls.{startIn, sendIn, stopIn, restartIn, setNotReadyIn, setResultIn, clearResultIn};
-ghost use Rattle.gateway.specs.Calls.{invokeIn, showIn, deliverIn};
+ghost use Rattle.gateway.specs.Calls.{setRecordIn, clearRecordIn, invokeIn, readErrorIn, writeErrorIn, showIn};
+ghost use Rattle.gateway.specs.Calls.{deliverIn};
 ghost use Rattle.gateway.specs.Exports.{toldOf, LentCallSays, LentOutputSays, LentLoadSays};
 use super::Call;
 use super::Called;
 use super::Told;
+use super::calls::clear_record;
 use super::calls::clear_result;
 use super::calls::invoke;
+use super::calls::read_error;
 use super::calls::restart;
 use super::calls::send;
 use super::calls::set_not_ready;
+use super::calls::set_record;
 use super::calls::set_result;
 use super::calls::show;
 use super::calls::start;
 use super::calls::stop;
+use super::calls::write_error;
 use super::deliver::deliver;
 use super::load::load;
 use records::Record;
@@ -88,12 +93,54 @@ pub extern "C" fn folderpink_clear_result(c: &mut Call, rs: &mut [Record]) -> To
 }
 
 #[no_mangle]
+pub extern "C" fn folderpink_set_record(c: &mut Call, rs: &mut [Record], bytes: &[u8]) -> Told
+    ensures { λ r. ⌜ LentCallSays (setRecordIn (lent (now (c .entry) .gateway) (now (rs .entry)))
+        (now (c .entry) .clock) (now (c .entry) .entry) (now (bytes .entry)))
+        (now (c .entry)) (now (c .exit)) (now (rs .exit)) r ⌝ }
+{
+    let t = set_record(rs, *c, bytes);
+    c.gateway = t.gateway;
+    told(t)
+}
+
+#[no_mangle]
+pub extern "C" fn folderpink_clear_record(c: &mut Call, rs: &mut [Record]) -> Told
+    ensures { λ r. ⌜ LentCallSays (clearRecordIn (lent (now (c .entry) .gateway) (now (rs .entry)))
+        (now (c .entry) .clock) (now (c .entry) .entry)) (now (c .entry)) (now (c .exit)) (now (rs .exit)) r ⌝ }
+{
+    let t = clear_record(rs, *c);
+    c.gateway = t.gateway;
+    told(t)
+}
+
+#[no_mangle]
 pub extern "C" fn folderpink_invoke(c: &mut Call, rs: &mut [Record], bytes: &[u8]) -> Told
     ensures { λ r. ⌜ LentCallSays (invokeIn (lent (now (c .entry) .gateway) (now (rs .entry)))
         (now (c .entry) .clock) (now (c .entry) .entry) (now (c .entry) .word) (now (bytes .entry)))
         (now (c .entry)) (now (c .exit)) (now (rs .exit)) r ⌝ }
 {
     let t = invoke(rs, *c, bytes);
+    c.gateway = t.gateway;
+    told(t)
+}
+
+#[no_mangle]
+pub extern "C" fn folderpink_read_error(c: &mut Call, rs: &mut [Record]) -> Told
+    ensures { λ r. ⌜ LentCallSays (readErrorIn (lent (now (c .entry) .gateway) (now (rs .entry)))
+        (now (c .entry) .clock) (now (c .entry) .entry)) (now (c .entry)) (now (c .exit)) (now (rs .exit)) r ⌝ }
+{
+    let t = read_error(rs, *c);
+    c.gateway = t.gateway;
+    told(t)
+}
+
+#[no_mangle]
+pub extern "C" fn folderpink_write_error(c: &mut Call, rs: &mut [Record], bytes: &[u8]) -> Told
+    ensures { λ r. ⌜ LentCallSays (writeErrorIn (lent (now (c .entry) .gateway) (now (rs .entry)))
+        (now (c .entry) .clock) (now (c .entry) .entry) (now (bytes .entry)))
+        (now (c .entry)) (now (c .exit)) (now (rs .exit)) r ⌝ }
+{
+    let t = write_error(rs, *c, bytes);
     c.gateway = t.gateway;
     told(t)
 }

@@ -56,8 +56,8 @@ pub struct Sought {
     pub connection: u32,
 }
 
-// What a call's own step starts from: all of the record but the bytes of its value and of its words, as it was, the
-// length of the slice, and the record's place in it.
+// What a call's own step starts from: all of the record but the bytes of its value, of its words and of its error
+// record, as it was, the length of the slice, and the record's place in it.
 pub struct Picked {
     pub stored: Stored,
     pub call: Call,
@@ -65,8 +65,15 @@ pub struct Picked {
     pub spot: usize,
 }
 
+// The bytes of what its user has handed over: the words, and the error record.
+pub struct Handed {
+    pub words: [u8; 100],
+    pub errorinfo: [u8; 56],
+}
+
 // What a call comes to: the first `steps` records take the clock step, then `stored` is put at `spot`, the value at
-// `wipe` is the fail-safe one, and a new value, or new words, stand at `keep`. Past the slice nothing is stored.
+// `wipe` is the fail-safe one, and a new value, new words or a new error record stand at `keep`. Past the slice nothing is
+// stored.
 pub struct Moved {
     pub stored: Stored,
     pub told: Called,

@@ -57,6 +57,7 @@ fn make(list: &[u32], i: usize) -> Record
         stored: stored,
         value: [0; 100],
         words: [0; 100],
+        errorinfo: [0; 56],
     }
 }
 

@@ -170,7 +170,7 @@ pub(crate) fn refused(a: Answer, p: Picked) -> Moved
     }
 }
 
-// The connection's own step. Kept: it took a value, or words.
+// The connection's own step. Kept: it took a value, words or an error record.
 pub(crate) fn acted(s: Stepped, kept: bool, p: Picked) -> Moved
     ensures { λ r. ⌜ r ≡ actedMove p s kept ⌝ }
 {

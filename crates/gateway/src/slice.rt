@@ -2,11 +2,13 @@
 // laws name. Their shapes are the laws'.
 ghost use mathlib.Core.Path.{_≡_};
 ghost use lib.Dec.{eqb};
-ghost use Rattle.endpoint.specs.Endpoint.{noBytes};
+ghost use Rattle.endpoint.specs.Endpoint.{noBytes, noRecord};
 ghost use Rattle.gateway.specs.Tables.{blankRecord};
-ghost use Rattle.gateway.specs.Parts.{picked, pickedOf, heldAt, wordsSpot, handedAt, metOf, settled, valueAt, wordsAt};
+ghost use Rattle.gateway.specs.Parts.{picked, pickedOf, heldAt, handedSpot, handed, handedAt, metOf, settled};
+ghost use Rattle.gateway.specs.Parts.{valueAt, wordsAt, errorInfoAt};
 use super::Call;
 use super::Called;
+use super::Handed;
 use super::Moved;
 use super::Picked;
 use super::Sought;
@@ -15,7 +17,7 @@ use records::Record;
 use records::Stored;
 use records::ended;
 use records::is_over;
-use records::is_setup;
+use records::is_readying;
 
 // What stands past the slice.
 pub(crate) fn blank() -> Stored
@@ -42,8 +44,10 @@ pub(crate) fn blank() -> Stored
         hasasked: 0,
         requests: 0,
         queue: 0,
+        invoked: 0,
         notready: 0,
         words: 0,
+        errorinfo: 0,
         taken: 0,
     }
 }
@@ -109,38 +113,44 @@ pub(crate) fn value_at(rs: &mut [Record], c: Call) -> [u8; 100]
     same(rs[i].value, c, n)
 }
 
-// ---- the words of what was picked
+// ---- what was handed over, of what was picked
 
-// Past the slice outside setup, where no call looks at them, so that they are not copied.
-fn words_spot(p: Picked) -> usize
-    ensures { λ r. ⌜ r ≡ wordsSpot p ⌝ }
+// Past the slice where S-RefreshReady is not due and no call looks at it, so that it is not copied.
+fn handed_spot(p: Picked) -> usize
+    ensures { λ r. ⌜ r ≡ handedSpot p ⌝ }
 {
     let stored = p.stored;
-    choose(is_setup(stored), p.spot, p.room)
+    choose(is_readying(stored), p.spot, p.room)
 }
 
-fn same_words(w: [u8; 100], p: Picked, n: usize) -> [u8; 100]
-    ensures { λ r. ⌜ r ≡ w ⌝ }
+fn both(words: [u8; 100], errorinfo: [u8; 56], p: Picked, n: usize) -> Handed
+    ensures { λ r. ⌜ r ≡ handed words errorinfo ⌝ }
 {
-    w
+    Handed {
+        words: words,
+        errorinfo: errorinfo,
+    }
 }
 
-fn no_words(p: Picked, n: usize) -> [u8; 100]
-    ensures { λ r. ⌜ r ≡ noBytes ⌝ }
+fn none_handed(p: Picked, n: usize) -> Handed
+    ensures { λ r. ⌜ r ≡ handed noBytes noRecord ⌝ }
 {
-    [0; 100]
+    Handed {
+        words: [0; 100],
+        errorinfo: [0; 56],
+    }
 }
 
-// The words that its user handed over.
-pub(crate) fn words_at(rs: &mut [Record], p: Picked) -> [u8; 100]
-    ensures { λ w. ⌜ (w ≡ handedAt (now (rs .entry)) p) × (now (rs .exit) ≡ now (rs .entry)) ⌝ }
+// The words and the error record that its user handed over.
+pub(crate) fn handed_at(rs: &mut [Record], p: Picked) -> Handed
+    ensures { λ h. ⌜ (h ≡ handedAt (now (rs .entry)) p) × (now (rs .exit) ≡ now (rs .entry)) ⌝ }
 {
     let n = rs.len();
-    let i = words_spot(p);
+    let i = handed_spot(p);
     if i >= n {
-        return no_words(p, n);
+        return none_handed(p, n);
     }
-    same_words(rs[i].words, p, n)
+    both(rs[i].words, rs[i].errorinfo, p, n)
 }
 
 // ---- the record of a CID
@@ -251,6 +261,17 @@ pub(crate) fn put_words(rs: &mut [Record], m: Moved, w: [u8; 100]) -> Called
     let i = keep_at(m);
     if i < rs.len() {
         rs[i].words = w;
+    }
+    told_of(m)
+}
+
+// An error record that its user handed over.
+pub(crate) fn put_error_info(rs: &mut [Record], m: Moved, x: [u8; 56]) -> Called
+    ensures { λ r. ⌜ (r ≡ m .told) × (now (rs .exit) ≡ errorInfoAt (m .keep) x (now (rs .entry))) ⌝ }
+{
+    let i = keep_at(m);
+    if i < rs.len() {
+        rs[i].errorinfo = x;
     }
     told_of(m)
 }

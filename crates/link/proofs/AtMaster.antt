@@ -14,13 +14,14 @@ use Rattle.endpoint.specs.declared.Settings.{Settings}
 use Rattle.endpoint.specs.declared.State.{State}
 use Rattle.endpoint.specs.declared.State.the-variants.{Close, Starting, EstablishPending, Establish, ParamVerify}
 use Rattle.endpoint.specs.declared.State.the-variants.{FuncRunning, RefreshPending, Refresh, Terminate}
+use Rattle.endpoint.specs.declared.State.the-variants.{TerminateMore}
 use Rattle.endpoint.specs.declared.Timestamps.{Timestamps}
 use Rattle.endpoint.specs.declared.Pending.the-variants.{Nothing}
 use Rattle.endpoint.specs.declared.Queue.{Queue}
 use Rattle.endpoint.specs.declared.Station.{Station}
 use Rattle.endpoint.specs.Endpoint.{Endpoint, Words}
 use Rattle.endpoint.specs.Table.{isState, isSetup, nextOf, stateTo, requestOf}
-use Rattle.endpoint.specs.Due.{isWaiting, isCommandDue, requestDue}
+use Rattle.endpoint.specs.Due.{isWaiting, queuedIn, isCommandDue, requestDue}
 use Rattle.endpoint.specs.Time.{span, minus, isExpired, endedOf, allowanceOf, timeOf, ageOf}
 use Rattle.transitions.specs.ByCall.{startedOf, restartedOf, requestedOf, refreshSentOf, stoppedOf}
 use Rattle.transitions.specs.ByFrame.{refreshedOf, measuredBy, confirmedOf, dueAgainOf, performedOf}
@@ -100,8 +101,8 @@ module _ (c : Clocks) (sm ss : Settings) (p : Paired sm ss) {l : List Sent} {em 
   pub restarted-m : Linked c sm ss (t + c .master) l (restartedOf em) es tm ts
   restarted-m = rest (restartedOf em) (L .setM) refl refl refl (λ h. absurd (false≢true h)) refl
 
-  pub told-m : (s : Station) (q : Queue) (w : Words) → Linked c sm ss (t + c .master) l (toldOf em s q w) es tm ts
-  told-m s q w =
+  pub told-m : (s : Station) (q : Queue) (w x : Words) → Linked c sm ss (t + c .master) l (toldOf em s q w x) es tm ts
+  told-m s q w x =
       let r = L .relM in
       record {
         master = L .master;
@@ -113,7 +114,7 @@ module _ (c : Clocks) (sm ss : Settings) (p : Paired sm ss) {l : List Sent} {em 
           nextIn = r .nextIn;
           held = r .held;
           live = λ h. let v = r .live h in record { value = v .value; phase = v .phase; holds = v .holds };
-          pend = λ h x d. let a = r .pend h x d in record { since = a .since; phase = a .phase };
+          pend = λ h y d. let a = r .pend h y d in record { since = a .since; phase = a .phase };
           ready = λ h d. let g = r .ready h d in record { phase = g .phase; since = g .since };
         };
         relS = L .relS;
@@ -168,7 +169,7 @@ module _ (c : Clocks) (sm ss : Settings) (p : Paired sm ss) {l : List Sent} {em 
     asked-honest : Honest asking
     asked-honest = record {
       writer = refl;
-      value = λ h. absurd (true≢false (sym h ∙ due-not-refresh (isWaiting (em .setup .queue)) (em .state)));
+      value = λ h. absurd (true≢false (sym h ∙ due-not-refresh (em .setup .queue) (em .state)));
       busy = λ h. absurd (false≢true h);
     }
 
@@ -177,10 +178,9 @@ module _ (c : Clocks) (sm ss : Settings) (p : Paired sm ss) {l : List Sent} {em 
         (mark 0 (codeOf (requestDue em)) t (baselineOf (requestDue em) t (em .setup .measured))
         (t + c .master) (dueData em))) (marks l)
     go-asked h =
-        let w = isWaiting (em .setup .queue) in
-        let k = go-due w (em .state) h in
+        let k = go-due (em .setup .queue) (em .state) h in
         let g = L .relM .ready k (d .idle) in
-        let b = go-baseline t (em .setup .measured) w (em .state) k in
+        let b = go-baseline t (em .setup .measured) (em .setup .queue) (em .state) k in
         let u = setup-timer em t x (d .setup) in
         let r : em .settings .roundtrip ≤ 65535 = subst (λ (s : Settings). s .roundtrip ≤ 65535) (sym (L .setM))
         (p .ticksM .roundtrip) in
@@ -301,12 +301,12 @@ module _ (c : Clocks) (sm ss : Settings) (p : Paired sm ss) {l : List Sent} {em 
 
       not-refresh : is (f .command) K.Refresh ≡ false
       not-refresh = ap (λ (q : Command). is q K.Refresh) due
-          ∙ due-not-refresh (isWaiting (em .setup .queue)) (em .state)
+          ∙ due-not-refresh (em .setup .queue) (em .state)
 
       -- no queued command is due: the reply leads on
       module _ (n : isCommandDue em ≡ false) where
         next-due : requestDue em ≡ requestOf (em .state)
-        next-due = cond-false (isCommandDue em) K.InvokeFunc (requestOf (em .state)) n
+        next-due = cond-false (isCommandDue em) (queuedIn (em .setup .queue)) (requestOf (em .state)) n
 
         leads-to : (s : State) → em .state ≡ s → confirmedOf em t .state ≡ stateTo (nextOf (requestOf s) s) s
         leads-to s e = ap (λ (k : Command). stateTo (nextOf k (em .state)) (em .state)) next-due
@@ -401,6 +401,7 @@ module _ (c : Clocks) (sm ss : Settings) (p : Paired sm ss) {l : List Sent} {em 
         confirmed RefreshPending e h = go-m e
         confirmed Refresh e h = absurd (false≢true h)
         confirmed Terminate e h = absurd (false≢true h)
+        confirmed TerminateMore e h = absurd (false≢true h)
 
       -- a queued command's: nothing is pending, and m2 is not fixed yet
       performed : isCommandDue em ≡ true → Linked c sm ss (t + c .master) l (performedOf em t) es tm ts
@@ -414,7 +415,7 @@ module _ (c : Clocks) (sm ss : Settings) (p : Paired sm ss) {l : List Sent} {em 
           let may : mayBeBusy (f .command) ≡ true =
           subst (λ (y : Fields). y .busy ≡ true → mayBeBusy (y .command) ≡ true) (g .fields)
           (L .honest k (g .there) .busy) b in
-          let u = busy-due (isWaiting (em .setup .queue)) (em .state) (ap mayBeBusy (sym due) ∙ may) in
+          let u = busy-due (em .setup .queue) (em .state) (ap mayBeBusy (sym due) ∙ may) in
           rest (dueAgainOf em t) (L .setM) refl refl (u .0) (λ h. refl) (u .1)
 
       abbrev Heard : Bool → Bool → Type 0

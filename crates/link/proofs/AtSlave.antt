@@ -24,6 +24,7 @@ use Rattle.endpoint.specs.declared.Next.{Next}
 use Rattle.endpoint.specs.Table.{isState, isNo, nextOf, stateTo}
 use Rattle.endpoint.specs.Due.{isHeldBack}
 use Rattle.endpoint.specs.Time.{span, minus, isExpired, isAbove, endedOf, offsetFrom, timeOf, ageOf}
+use Rattle.endpoint.specs.Updates.{inState}
 use Rattle.transitions.specs.ByCall.{restartedOf, refreshSentOf, stoppedOf}
 use Rattle.transitions.specs.ByFrame.{refreshedOf, measuredBy, advancedOf, endedBy, deferredOf}
 use Rattle.steps.specs.Frames.{refreshFields, replyFields, hasResult, isBusy, replyData}
@@ -90,8 +91,8 @@ module _ (c : Clocks) (sm ss : Settings) (p : Paired sm ss) {l : List Sent} {em 
       rest (stoppedOf es t) (L .setS) (ap (λ (b : Timestamps). topOf (b .sent)) q)
       (ap (λ (b : Timestamps). topOf (b .accepted)) q) refl refl
 
-  pub told-s : (s : Station) (q : Queue) (w : Words) → Linked c sm ss (t + c .slave) l em (toldOf es s q w) tm ts
-  told-s s k w =
+  pub told-s : (s : Station) (q : Queue) (w x : Words) → Linked c sm ss (t + c .slave) l em (toldOf es s q w x) tm ts
+  told-s s k w x =
       let q = L .relS in
       record {
         master = L .master;
@@ -202,26 +203,26 @@ module _ (c : Clocks) (sm ss : Settings) (p : Paired sm ss) {l : List Sent} {em 
             inv = s-hears (termsOf c sm ss) (small-of c sm ss p) k (in-log f body l k g) marked-who next-below (L .inv);
           }
 
-      -- a reply, with Busy or Error or neither, and the station's result or the request's S-Data
-      abbrev pub replying : Bool → Bool → Sent
-      replying busy error = record {
+      -- a reply, with Busy or Error or neither, and its S-Data
+      abbrev pub replying : Bool → Bool → List ℕ → Sent
+      replying busy error said = record {
         slave = true;
         moment = t + c .slave;
         fields = replyFields es f busy error;
-        body = replyData es (f .command) body;
+        body = said;
         lent = none;
       }
 
-      module _ (busy error : Bool) (may : busy ≡ true → mayBeBusy (f .command) ≡ true)
+      module _ (busy error : Bool) (said : List ℕ) (may : busy ≡ true → mayBeBusy (f .command) ≡ true)
           (n : is (f .command) K.Refresh ≡ false) where
-        reply-mark : markOf (replying busy error)
-            ≡ mark 1 (codeOf (f .command)) (at (marks l) k .stamp) 0 (t + c .slave) (replyData es (f .command) body)
+        reply-mark : markOf (replying busy error said)
+            ≡ mark 1 (codeOf (f .command)) (at (marks l) k .stamp) 0 (t + c .slave) said
         reply-mark =
             let s : f .timestamp % span ≡ at (marks l) k .stamp = mod-eq-of-lt small-stamp
             ∙ sym (marked-stamp f body l k g) in
-            λ i. mark (cond (n i) 2 1) (codeOf (f .command)) (s i) 0 (t + c .slave) (replyData es (f .command) body)
+            λ i. mark (cond (n i) 2 1) (codeOf (f .command)) (s i) 0 (t + c .slave) said
 
-        reply-honest : Honest (replying busy error)
+        reply-honest : Honest (replying busy error said)
         reply-honest = record { writer = refl; value = λ h. absurd (true≢false (sym h ∙ n)); busy = may }
 
         replied : (e : Endpoint) (phase : SPhase) → e .settings ≡ ss
@@ -234,10 +235,9 @@ module _ (c : Clocks) (sm ss : Settings) (p : Paired sm ss) {l : List Sent} {em 
             } in
             RelS e ts S
             → Inv (termsOf c sm ss) (t + c .slave)
-            (snoc (marks l) (mark 1 (codeOf (f .command)) (at (marks l) k .stamp) 0 (t + c .slave)
-            (replyData es (f .command) body)))
+            (snoc (marks l) (mark 1 (codeOf (f .command)) (at (marks l) k .stamp) 0 (t + c .slave) said))
             (L .master) S
-            → Linked c sm ss (t + c .slave) (l ++ (replying busy error ∷ [])) em e tm ts
+            → Linked c sm ss (t + c .slave) (l ++ (replying busy error said ∷ [])) em e tm ts
         replied e phase s r v =
             let S : Slave = record {
               nextOut = L .slave .nextOut;
@@ -253,16 +253,16 @@ module _ (c : Clocks) (sm ss : Settings) (p : Paired sm ss) {l : List Sent} {em 
               setS = s;
               relM = L .relM;
               relS = r;
-              honest = honest-snoc l (replying busy error) (L .honest) reply-honest;
+              honest = honest-snoc l (replying busy error said) (L .honest) reply-honest;
               inv = subst (λ (x : List Mark). Inv (termsOf c sm ss) (t + c .slave) x (L .master) S)
-                  (sym (marks-snoc l (replying busy error) ∙ ap (snoc (marks l)) reply-mark)) v;
+                  (sym (marks-snoc l (replying busy error said) ∙ ap (snoc (marks l)) reply-mark)) v;
             }
 
         -- the slave rests after its reply
         replied-rest : (e : Endpoint) → e .settings ≡ ss → topOf (e .timestamps .sent) ≡ topOf (es .timestamps .sent)
             → topOf (e .timestamps .accepted) ≡ suc (f .timestamp) → isState (e .state) Refresh ≡ false
             → isState (e .state) RefreshPending ≡ false
-            → Linked c sm ss (t + c .slave) (l ++ (replying busy error ∷ [])) em e tm ts
+            → Linked c sm ss (t + c .slave) (l ++ (replying busy error said ∷ [])) em e tm ts
         replied-rest e s o i r h =
             let q = L .relS in
             replied e restS s
@@ -273,8 +273,7 @@ module _ (c : Clocks) (sm ss : Settings) (p : Paired sm ss) {l : List Sent} {em 
               live = λ z. absurd (true≢false (sym z ∙ r));
               ready = λ z. absurd (true≢false (sym z ∙ h));
             })
-            (s-replies (termsOf c sm ss) (small-of c sm ss p) (t + c .slave) k (codeOf (f .command))
-            (replyData es (f .command) body) restS refl
+            (s-replies (termsOf c sm ss) (small-of c sm ss p) (t + c .slave) k (codeOf (f .command)) said restS refl
             (in-log f body l k g) marked-who next-below tt (L .inv))
 
       -- Busy 0
@@ -282,14 +281,26 @@ module _ (c : Clocks) (sm ss : Settings) (p : Paired sm ss) {l : List Sent} {em 
       plain h = absurd (false≢true h)
 
       pub unequal-s : is (f .command) K.Refresh ≡ false
-          → Linked c sm ss (t + c .slave) (l ++ (replying false true ∷ [])) em (endedBy es (f .timestamp)) tm ts
-      unequal-s n = replied-rest false true plain n (endedBy es (f .timestamp)) (L .setS) refl refl refl refl
+          → Linked c sm ss (t + c .slave) (l ++ (replying false true (replyData es (f .command) false body) ∷ [])) em
+          (endedBy es (f .timestamp)) tm ts
+      unequal-s n = replied-rest false true (replyData es (f .command) false body) plain n (endedBy es (f .timestamp))
+          (L .setS) refl refl refl refl
+
+      -- S-WriteErrorInfo: its reply repeats its error record
+      pub reported-s : is (f .command) K.Refresh ≡ false → (s : State) → isState s Refresh ≡ false
+          → isState s RefreshPending ≡ false
+          → Linked c sm ss (t + c .slave) (l ++ (replying false false body ∷ [])) em
+          (inState s (endedBy es (f .timestamp))) tm ts
+      reported-s n s = replied-rest false false body plain n (inState s (endedBy es (f .timestamp))) (L .setS) refl refl
 
       -- a request that is done
-      module _ (d : RequestTaken es t f body) (x : isExpired es t ≡ false) (n : is (f .command) K.Refresh ≡ false)
-          (o : is (f .command) K.Disconnect ≡ false) where
+      module _ (d : RequestTaken es t f body) (x : isExpired es t ≡ false) (n : is (f .command) K.Refresh ≡ false) where
         abbrev busy : Bool
         busy = isBusy es (f .command) (length body)
+
+        -- the station's result or its error record, or the request's own
+        abbrev said : List ℕ
+        said = replyData es (f .command) true body
 
         may : busy ≡ true → mayBeBusy (f .command) ≡ true
         may = busy-may (es .station .notready) (waitsForStation (f .command)) (is (f .command) K.InvokeFunc)
@@ -302,13 +313,13 @@ module _ (c : Clocks) (sm ss : Settings) (p : Paired sm ss) {l : List Sent} {em 
 
         -- S-RefreshReady: s2
         ready-s : f .command ≡ K.RefreshReady
-            → Linked c sm ss (t + c .slave) (l ++ (replying busy false ∷ [])) em (advancedOf es t f) tm ts
+            → Linked c sm ss (t + c .slave) (l ++ (replying busy false said ∷ [])) em (advancedOf es t f) tm ts
         ready-s e =
             let q = L .relS in
             let s2 = to K.RefreshReady e in
             let m2 : advancedOf es t f .setup .measured ≡ t = ap
             (λ (y : Command). measuredBy y t (es .setup .measured)) e in
-            replied busy false may n (advancedOf es t f) (armed t) (L .setS)
+            replied busy false said may n (advancedOf es t f) (armed t) (L .setS)
             (record {
               nextOut = q .nextOut;
               nextIn = ap suc (sym (marked-stamp f body l k g));
@@ -316,13 +327,13 @@ module _ (c : Clocks) (sm ss : Settings) (p : Paired sm ss) {l : List Sent} {em 
               live = λ z. absurd (false≢true (sym (ap (λ (y : State). isState y Refresh) s2) ∙ z));
               ready = λ z. record { phase = ap armed (sym m2); since = sym m2 };
             })
-            (s-arms (termsOf c sm ss) (small-of c sm ss p) t (t + c .slave) k (codeOf (f .command))
-            (replyData es (f .command) body) refl refl (omega arith) (in-log f body l k g) marked-who
+            (s-arms (termsOf c sm ss) (small-of c sm ss p) t (t + c .slave) k (codeOf (f .command)) said
+            refl refl (omega arith) (in-log f body l k g) marked-who
             ((marked-code f body l k g) ∙ ap codeOf e) next-below (L .inv))
 
         -- S-RefreshGO: ts_offset
         go-s : f .command ≡ K.RefreshGo
-            → Linked c sm ss (t + c .slave) (l ++ (replying busy false ∷ [])) em (advancedOf es t f) tm ts
+            → Linked c sm ss (t + c .slave) (l ++ (replying busy false said ∷ [])) em (advancedOf es t f) tm ts
         go-s e =
             let q = L .relS in
             let s2 = to K.RefreshGo e in
@@ -338,7 +349,7 @@ module _ (c : Clocks) (sm ss : Settings) (p : Paired sm ss) {l : List Sent} {em 
             (λ j. offsetFrom ((marked-stamp f body l k g) j) (marked-baseline j) (es .setup .measured))
             ∙ sym (ap (λ (y : Command). cond (is y K.RefreshGo)
             (offsetFrom (f .timestamp) (f .baseline) (es .setup .measured)) (es .setup .offset)) e) in
-            replied busy false may n (advancedOf es t f)
+            replied busy false said may n (advancedOf es t f)
             (liveS (offsetFrom (at (marks l) k .stamp) (at (marks l) k .baseline) (es .setup .measured)) t none)
             (L .setS)
             (record {
@@ -349,42 +360,44 @@ module _ (c : Clocks) (sm ss : Settings) (p : Paired sm ss) {l : List Sent} {em 
               ready = λ z. absurd (false≢true (sym (ap (λ (y : State). isState y RefreshPending) s2) ∙ z));
             })
             (s-goes (termsOf c sm ss) (small-of c sm ss p) t (t + c .slave) k (codeOf (f .command))
-            (es .setup .measured) (replyData es (f .command) body) (r .phase) refl refl (omega arith)
+            (es .setup .measured) said (r .phase) refl refl (omega arith)
             (in-log f body l k g) marked-who ((marked-code f body l k g) ∙ ap codeOf e) next-below (L .inv))
 
         plain-s : (q : Command) → f .command ≡ q → isState (targetOf q) Refresh ≡ false
             → isState (targetOf q) RefreshPending ≡ false
-            → Linked c sm ss (t + c .slave) (l ++ (replying busy false ∷ [])) em (advancedOf es t f) tm ts
+            → Linked c sm ss (t + c .slave) (l ++ (replying busy false said ∷ [])) em (advancedOf es t f) tm ts
         plain-s q e h i =
-            replied-rest busy false may n (advancedOf es t f) (L .setS) refl refl
+            replied-rest busy false said may n (advancedOf es t f) (L .setS) refl refl
             (ap (λ (y : State). isState y Refresh) (to q e) ∙ h)
             (ap (λ (y : State). isState y RefreshPending) (to q e) ∙ i)
 
         by-command : (q : Command) → f .command ≡ q
-            → Linked c sm ss (t + c .slave) (l ++ (replying busy false ∷ [])) em (advancedOf es t f) tm ts
+            → Linked c sm ss (t + c .slave) (l ++ (replying busy false said ∷ [])) em (advancedOf es t f) tm ts
         by-command K.Connect e = plain-s K.Connect e refl refl
         by-command K.ConfirmNetwork e = plain-s K.ConfirmNetwork e refl refl
         by-command K.VerifyStation e = plain-s K.VerifyStation e refl refl
         by-command K.InvokeFunc e = plain-s K.InvokeFunc e refl refl
+        by-command K.ReadErrorInfo e = plain-s K.ReadErrorInfo e refl refl
+        by-command K.WriteErrorInfo e = plain-s K.WriteErrorInfo e refl refl
         by-command K.RefreshReady e = ready-s e
         by-command K.RefreshGo e = go-s e
         by-command K.Refresh e = absurd (true≢false (sym (ap (λ (y : Command). is y K.Refresh) e) ∙ n))
-        by-command K.Disconnect e = absurd (true≢false (sym (ap (λ (y : Command). is y K.Disconnect) e) ∙ o))
+        by-command K.Disconnect e = plain-s K.Disconnect e refl refl
 
-        advanced-s : Linked c sm ss (t + c .slave) (l ++ (replying busy false ∷ [])) em (advancedOf es t f) tm ts
+        advanced-s : Linked c sm ss (t + c .slave) (l ++ (replying busy false said ∷ [])) em (advancedOf es t f) tm ts
         advanced-s = by-command (f .command) refl
 
         -- held back: the slave rests after its Busy reply too
         deferred-s : isHeldBack es (f .command) ≡ true
-            → Linked c sm ss (t + c .slave) (l ++ (replying busy false ∷ [])) em (deferredOf es t f) tm ts
+            → Linked c sm ss (t + c .slave) (l ++ (replying busy false said ∷ [])) em (deferredOf es t f) tm ts
         deferred-s b =
             let w = and-right (es .station .notready) (waitsForStation (f .command)) b in
             let u = held-from (f .command) w (es .state) (d .turn) in
-            replied-rest busy false may n (deferredOf es t f) (L .setS) refl refl (u .0) (u .1)
+            replied-rest busy false said may n (deferredOf es t f) (L .setS) refl refl (u .0) (u .1)
 
         abbrev Answered : Bool → Type 0
         Answered held =
-            Linked c sm ss (t + c .slave) (l ++ (replying busy false ∷ [])) em
+            Linked c sm ss (t + c .slave) (l ++ (replying busy false said ∷ [])) em
             (cond held (deferredOf es t f) (advancedOf es t f)) tm ts
 
         pub answered-s : Answered (isHeldBack es (f .command))

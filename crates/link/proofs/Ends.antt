@@ -22,7 +22,7 @@ use Rattle.steps.specs.Calls.{Outcome, outcome, sendOf, stopOf}
 use Rattle.steps.specs.Deliveries.{requestFaults, isResult, replyFaults, takeRequest, takeReply, deliverOf}
 use Rattle.steps.specs.Laws.{RefreshSent, RequestSent}
 use Rattle.steps.proofs.Dispatch.{cond-true, cond-false, deliver-request, deliver-reply}
-use Rattle.steps.proofs.Dones.{send-done, stop-done, refresh-done, request-done, reply-done}
+use Rattle.steps.proofs.Dones.{send-done, stop-done, refresh-done, request-done, report-done, reply-done}
 use Rattle.steps.proofs.Firsts.{not-dropped}
 use Rattle.steps.proofs.Keeps.{bcase}
 use Rattle.steps.specs.Steps.{stop, Call, act, send, deliver, callOf}
@@ -30,6 +30,8 @@ use Rattle.link.specs.Runs.{Clocks, Sent, logged, mayDeliver, tookBy}
 use Rattle.link.specs.Fresh.{Paired}
 use Rattle.link.proofs.Relation.{Linked}
 use Rattle.link.proofs.Entries.{FoundAt}
+use Rattle.errors.specs.Reading.{moreFollows}
+use Rattle.link.proofs.Codes.{ended-refresh, ended-pending}
 use Rattle.link.proofs.Events.{Keeps, Kept, expired, acted}
 use Rattle.link.proofs.AtMaster as M
 use Rattle.link.proofs.Invariant.{limit}
@@ -180,9 +182,16 @@ module _ (c : Clocks) (sm ss : Settings) (p : Paired sm ss) {l : List Sent} {em 
         replies : (a : Answer) → firstOf (requestFaults es f body) ≡ a → is (f .command) K.Disconnect ≡ false
             → KeepsS (deliver f body) (takeRequest es t f body)
         replies Done e q =
-            let d = request-done es t f body q e in
+            bcase (is (f .command) K.WriteErrorInfo)
+            (λ w.
+            let d = report-done es t f body w e in
             subst (KeepsS (deliver f body)) (sym (d .comes))
-            (S.answered-s c sm ss p t lim L f body k g masters (d .above) d x n q)
+            (S.reported-s c sm ss p t lim L f body k g masters (d .above) n _ (ended-refresh (moreFollows body))
+            (ended-pending (moreFollows body))))
+            (λ w.
+            let d = request-done es t f body q w e in
+            subst (KeepsS (deliver f body)) (sym (d .comes))
+            (S.answered-s c sm ss p t lim L f body k g masters (d .above) d x n))
         replies (Dropped r) e q = rw e (silent-s (deliver f body) (Dropped r) es L)
         replies (Ended r) e q = rw (e, q)
             (S.unequal-s c sm ss p t lim L f body k g masters (ends (Ended r) e refl) n)

@@ -12,30 +12,32 @@ use mathlib.Mathlib.Data.Bool.Basic.{and-elim-left as and-left}
 use Rattle.frame.specs.declared.Command.the-variants as K′
 use Rattle.frame.specs.declared.Fields.{Fields}
 use Rattle.frame.specs.Control.{is}
-use Rattle.endpoint.specs.declared.State.the-variants.{Close, Terminate}
+use Rattle.endpoint.specs.declared.State.the-variants.{Close}
 use Rattle.endpoint.specs.declared.Queue.{Queue}
-use Rattle.endpoint.specs.declared.Queue.the-variants.{Waiting}
+use Rattle.endpoint.specs.declared.Queue.the-variants as Q
 use Rattle.endpoint.specs.declared.Station.{Station}
 use Rattle.endpoint.specs.Endpoint.{Endpoint, Words, wordsOf}
 use Rattle.endpoint.specs.declared.Reason.{Reason}
 use Rattle.endpoint.specs.declared.Reason.the-variants as R
 use Rattle.endpoint.specs.declared.Answer.{Answer}
 use Rattle.endpoint.specs.declared.Answer.the-variants.{Done, Dropped, Ended}
-use Rattle.endpoint.specs.Answers.{firstOf, isDone, isDropped}
-use Rattle.endpoint.specs.Table.{isState}
-use Rattle.endpoint.specs.Due.{mayQueue}
+use Rattle.endpoint.specs.Answers.{recordFaults, firstOf, isDone, isDropped}
+use Rattle.endpoint.specs.Table.{isState, isTerminated}
+use Rattle.endpoint.specs.Due.{mayQueue, mayQueueRead}
 use Rattle.endpoint.specs.Time.{endedOf}
 use Rattle.transitions.specs.ByCall.{startedOf, restartedOf}
 use Rattle.transitions.specs.ByFrame.{refreshedOf}
 use Rattle.steps.specs.Frames.{nothing}
 use Rattle.steps.specs.Calls.{Outcome, outcome, dropped, sendOf, stopFaults, stopOf}
 use Rattle.steps.specs.Frames.{paddedOf}
-use Rattle.steps.specs.Calls.{handFaults, commandData}
+use Rattle.steps.specs.Calls.{handFaults, commandData, keptRecord, recordWith}
+use Rattle.errors.specs.Reading.{isRecord}
 use Rattle.steps.specs.Deliveries.{refreshFaults, takeRefresh, deliverOf}
 use Rattle.steps.proofs.Dispatch.{cond-true, cond-false, deliver-echo, deliver-refresh}
 use Rattle.steps.proofs.Dones.{send-cases}
 use Rattle.steps.proofs.Keeps.{bcase}
-use Rattle.steps.specs.Steps.{Act, start, stop, restart, setNotReady, setResult, clearResult, invoke}
+use Rattle.steps.specs.Steps.{Act, start, stop, restart, setNotReady, setResult, clearResult, setRecord}
+use Rattle.steps.specs.Steps.{clearRecord, invoke, readError, writeError}
 use Rattle.steps.specs.Steps.{Call, act, send, deliver, show, actOf, stepOf}
 use Rattle.link.specs.Runs.{Sent, logged, lastOf, mayDeliver, tookBy}
 use Rattle.link.proofs.Relation.{toldOf}
@@ -66,7 +68,7 @@ module _ (slave : Bool) (m t : ℕ) (l : List Sent) (e : Endpoint) (took : ℕ) 
     (base : K l e took) (ended : K l (endedOf e) took)
     (started : e .settings .slave ≡ false → K l (startedOf e t) took)
     (restarted : K l (restartedOf e) took)
-    (told : (s : Station) (q : Queue) (w : Words) → K l (toldOf e s q w) took) where
+    (told : (s : Station) (q : Queue) (w x : Words) → K l (toldOf e s q w x) took) where
   -- what a call that takes no S-Refresh keeps
   unfoldable pub Keeps : Call → Outcome → Type 0
   Keeps call o = K (l ++ logged slave m call (o .writes)) (o .endpoint) took
@@ -140,10 +142,17 @@ module _ (slave : Bool) (m t : ℕ) (l : List Sent) (e : Endpoint) (took : ℕ) 
         (and-false (isDone (deliverOf e t f body .answer)) (is (f .command) K′.Refresh) r) (other f body k g h r)))
 
     -- its user tells it something, or is refused
-    tells : (a : Act) (b : Bool) (s : Station) (q : Queue) (w : Words) (r : Answer)
-        → Keeps (act a) (cond b (outcome Done (toldOf e s q w) nothing) (dropped e r))
-    tells a true s q w r = silent (act a) Done (toldOf e s q w) (told s q w)
-    tells a false s q w r = silent (act a) r e base
+    tells : (a : Act) (b : Bool) (s : Station) (q : Queue) (w x : Words) (r : Answer)
+        → Keeps (act a) (cond b (outcome Done (toldOf e s q w x) nothing) (dropped e r))
+    tells a true s q w x r = silent (act a) Done (toldOf e s q w x) (told s q w x)
+    tells a false s q w x r = silent (act a) r e base
+
+    -- and hands an error record over
+    records : (a : Act) (turn : Bool) (q : Queue) (body : List ℕ)
+        → Keeps (act a) (recordWith turn (toldOf e (e .station) q (e .words) (keptRecord body)) e body)
+    records a turn q body =
+        let r = firstOf (recordFaults (not turn) (not (isRecord body))) in
+        tells a (isDone r) (e .station) q (e .words) (keptRecord body) r
 
     acts : (a : Act) → Keeps (act a) (actOf e t a)
     unfolding Keeps
@@ -154,22 +163,30 @@ module _ (slave : Bool) (m t : ℕ) (l : List Sent) (e : Endpoint) (took : ℕ) 
         (λ k. rw k (silent (act start) (Dropped R.Turn) e base))
     acts stop = stop-cases (Keeps (act stop)) e t stopped (λ a. silent (act stop) a e base)
     acts restart =
-        bcase (isState (e .state) Terminate) (λ k. rw k (silent (act restart) Done (restartedOf e) restarted))
+        bcase (isTerminated (e .state)) (λ k. rw k (silent (act restart) Done (restartedOf e) restarted))
         (λ k. rw k (silent (act restart) (Dropped R.Turn) e base))
     acts (setNotReady b) =
         tells (setNotReady b) (e .settings .slave) (record { notready = b }) (e .setup .queue) (e .words)
-        (Dropped R.Turn)
+        (e .errorinfo) (Dropped R.Turn)
     acts (setResult body) =
         let a = firstOf (handFaults (e .settings .slave) (length body)) in
         tells (setResult body) (isDone a) (e .station) (e .setup .queue)
-        (wordsOf (length body / 4) (paddedOf body)) a
+        (wordsOf (length body / 4) (paddedOf body)) (e .errorinfo) a
     acts clearResult =
         tells clearResult (e .settings .slave) (e .station) (e .setup .queue) (wordsOf 0 (e .words .bytes))
-        (Dropped R.Turn)
+        (e .errorinfo) (Dropped R.Turn)
+    acts (setRecord body) = records (setRecord body) (e .settings .slave) (e .setup .queue) body
+    acts clearRecord =
+        tells clearRecord (e .settings .slave) (e .station) (e .setup .queue) (e .words)
+        (wordsOf 0 (e .errorinfo .bytes)) (Dropped R.Turn)
     acts (invoke word bytes) =
         let body = commandData word bytes in
         let a = firstOf (handFaults (mayQueue e) (length body)) in
-        tells (invoke word bytes) (isDone a) (e .station) Waiting (wordsOf (length body / 4) (paddedOf body)) a
+        tells (invoke word bytes) (isDone a) (e .station) Q.InvokeFunc (wordsOf (length body / 4) (paddedOf body))
+        (e .errorinfo) a
+    acts readError =
+        tells readError (mayQueueRead e) (e .station) Q.ReadErrorInfo (e .words) (e .errorinfo) (Dropped R.Turn)
+    acts (writeError body) = records (writeError body) (mayQueue e) Q.WriteErrorInfo body
 
     -- every call but a deliver takes nothing
     pub acted : (call : Call) → mayDeliver l call ≡ true → Kept call (stepOf e t call)

@@ -75,11 +75,11 @@ pub above-top : (o : Timestamp) (s : ℕ) → isAbove o s ≡ true → topOf o �
 above-top Never s h = omega arith
 above-top (At r) s h = ltb-true r s h
 
--- ---- what its user tells an endpoint: whether the station is ready, the queue, and the words handed over; nothing
--- that the relation turns on
-abbrev pub toldOf : Endpoint → Station → Queue → Words → Endpoint
-toldOf e s q w =
-    endpointOf (e .settings) (e .state) (e .since) (e .timestamps) (withQueue q e .setup) s w (e .value)
+-- ---- what its user tells an endpoint: whether the station is ready, the queue, the words and the error record handed
+-- over; nothing that the relation turns on
+abbrev pub toldOf : Endpoint → Station → Queue → Words → Words → Endpoint
+toldOf e s q w r =
+    endpointOf (e .settings) (e .state) (e .since) (e .timestamps) (withQueue q e .setup) s w r (e .value)
 
 -- ---- the value held
 abbrev pub Holds : Settings → Value → Option (List ℕ) → Type 0

@@ -6,12 +6,13 @@ use Prim.Native.Nat.{ℕ}
 use Rattle.endpoint.specs.declared.State.{State}
 use Rattle.endpoint.specs.declared.State.the-variants.{Close, Starting, EstablishPending, Establish, ParamVerify}
 use Rattle.endpoint.specs.declared.State.the-variants.{FuncRunning, RefreshPending, Refresh, Terminate}
+use Rattle.endpoint.specs.declared.State.the-variants.{TerminateMore}
 use Rattle.endpoint.specs.declared.Timestamp.{Timestamp}
 use Rattle.endpoint.specs.declared.Timestamp.the-variants.{Never, At}
 use Rattle.endpoint.specs.declared.Pending.{Pending}
 use Rattle.endpoint.specs.declared.Pending.the-variants.{Nothing, Asked}
 use Rattle.endpoint.specs.declared.Queue.{Queue}
-use Rattle.endpoint.specs.declared.Queue.the-variants.{Empty, Waiting, Closed}
+use Rattle.endpoint.specs.declared.Queue.the-variants.{Empty, InvokeFunc, ReadErrorInfo, WriteErrorInfo, Closed}
 use Rattle.endpoint.specs.Endpoint.{Endpoint, noBytes}
 use Rattle.endpoint.specs.Table.{rowOf}
 use Rattle.endpoint.specs.Time.{Tidy}
@@ -32,6 +33,7 @@ state-back FuncRunning = refl
 state-back RefreshPending = refl
 state-back Refresh = refl
 state-back Terminate = refl
+state-back TerminateMore = refl
 
 timestamp-back : (x : Timestamp) → timestampFrom (isSet (flagOf (isAt x))) (timeIn x) ≡ x
 timestamp-back Never = refl
@@ -43,7 +45,9 @@ pending-back (Asked t) = refl
 
 queue-back : (q : Queue) → queueFrom (queueNumber q) ≡ q
 queue-back Empty = refl
-queue-back Waiting = refl
+queue-back InvokeFunc = refl
+queue-back ReadErrorInfo = refl
+queue-back WriteErrorInfo = refl
 queue-back Closed = refl
 
 bytes-back : (taken : Bool) (bytes : List ℕ) → (taken ≡ false → bytes ≡ noBytes)
@@ -61,6 +65,7 @@ back e tidy =
       timestamp-back (e .timestamps .accepted),
       pending-back (e .setup .pending),
       queue-back (e .setup .queue),
+      flag-back (e .setup .invoked),
       flag-back (e .station .notready),
       flag-back (e .value .taken),
     )

@@ -1,12 +1,14 @@
--- Past the numbers of the other states a number is Terminate's.
+-- Past the number of Refresh a number is Terminate's, or that of Terminate where more error records follow.
 use borrow.Author.Tests.{ne-eqb}
+use mathlib.Core.Bool.{cond}
 use mathlib.Core.Path.{_≡_}
 use native.Mathlib.Omega.{arith}
 use Prim.Native.Nat.{ℕ, _<_}
-use Rattle.endpoint.specs.declared.State.the-variants.{Terminate}
+use lib.Dec.{eqb}
+use Rattle.endpoint.specs.declared.State.the-variants.{Terminate, TerminateMore}
 use Rattle.records.specs.Records.{stateFrom}
 
-pub past : (x : ℕ) → 7 < x → stateFrom x ≡ Terminate
+pub past : (x : ℕ) → 7 < x → stateFrom x ≡ cond (eqb x 9) TerminateMore Terminate
 past x h =
     rw (
       ne-eqb x 0 (λ e. absurd (omega (arith, e, h))),

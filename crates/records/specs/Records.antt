@@ -8,13 +8,14 @@ use lib.Dec.{eqb}
 use Rattle.endpoint.specs.declared.State.{State}
 use Rattle.endpoint.specs.declared.State.the-variants.{Close, Starting, EstablishPending, Establish, ParamVerify}
 use Rattle.endpoint.specs.declared.State.the-variants.{FuncRunning, RefreshPending, Refresh, Terminate}
+use Rattle.endpoint.specs.declared.State.the-variants.{TerminateMore}
 use Rattle.endpoint.specs.declared.Timestamp.{Timestamp}
 use Rattle.endpoint.specs.declared.Timestamp.the-variants.{Never, At}
 use Rattle.endpoint.specs.declared.Pending.{Pending}
 use Rattle.endpoint.specs.declared.Pending.the-variants.{Nothing, Asked}
 use Rattle.endpoint.specs.declared.Queue.{Queue}
-use Rattle.endpoint.specs.declared.Queue.the-variants.{Empty, Waiting, Closed}
-use Rattle.endpoint.specs.Endpoint.{Endpoint, noBytes, wordsOf}
+use Rattle.endpoint.specs.declared.Queue.the-variants.{Empty, InvokeFunc, ReadErrorInfo, WriteErrorInfo, Closed}
+use Rattle.endpoint.specs.Endpoint.{Endpoint, noBytes, noRecord, wordsOf}
 use Rattle.endpoint.specs.Table.{rowOf}
 use Rattle.endpoint.specs.Time.{endedOf, Tidy}
 use Rattle.records.specs.declared.Stored.{Stored}
@@ -27,7 +28,7 @@ isSet x = not (eqb x 0)
 abbrev pub flagOf : Bool → ℕ
 flagOf b = cond b 1 0
 
--- past the nine states a number is Terminate's
+-- past the ten states a number is Terminate's
 abbrev pub stateFrom : ℕ → State
 stateFrom x =
     cond (eqb x 0) Close
@@ -37,7 +38,8 @@ stateFrom x =
     (cond (eqb x 4) ParamVerify
     (cond (eqb x 5) FuncRunning
     (cond (eqb x 6) RefreshPending
-    (cond (eqb x 7) Refresh Terminate)))))))
+    (cond (eqb x 7) Refresh
+    (cond (eqb x 9) TerminateMore Terminate))))))))
 
 abbrev pub timestampFrom : Bool → ℕ → Timestamp
 timestampFrom true t = At t
@@ -63,19 +65,25 @@ abbrev pub askedIn : Pending → ℕ
 askedIn Nothing = 0
 askedIn (Asked t) = t
 
--- past the three a number is Closed's
+-- past the five a number is Closed's
 abbrev pub queueFrom : ℕ → Queue
-queueFrom x = cond (eqb x 0) Empty (cond (eqb x 1) Waiting Closed)
+queueFrom x =
+    cond (eqb x 0) Empty
+    (cond (eqb x 1) InvokeFunc
+    (cond (eqb x 2) ReadErrorInfo
+    (cond (eqb x 3) WriteErrorInfo Closed)))
 
 abbrev pub queueNumber : Queue → ℕ
 queueNumber Empty = 0
-queueNumber Waiting = 1
-queueNumber Closed = 2
+queueNumber InvokeFunc = 1
+queueNumber ReadErrorInfo = 2
+queueNumber WriteErrorInfo = 3
+queueNumber Closed = 4
 
 -- ---- a record and its endpoint
--- the endpoint that is stored, with the bytes of its value and of its words
-abbrev pub wholeOf : Stored → List ℕ → List ℕ → Endpoint
-wholeOf s bytes words = record {
+-- the endpoint that is stored, with the bytes of its value, of its words and of its error record
+abbrev pub wholeOf : Stored → List ℕ → List ℕ → List ℕ → Endpoint
+wholeOf s bytes words errorinfo = record {
   settings = record {
     connection = s .connection;
     slave = isSet (s .slave);
@@ -98,22 +106,25 @@ wholeOf s bytes words = record {
     offset = s .offset;
     requests = s .requests;
     queue = queueFrom (s .queue);
+    invoked = isSet (s .invoked);
   };
   station = record { notready = isSet (s .notready) };
   words = wordsOf (s .words) words;
+  errorinfo = wordsOf (s .errorinfo) errorinfo;
   value = record { taken = isSet (s .taken); bytes = bytes };
 }
 
--- the same with both left out: what a call that does not touch them starts from
+-- the same with all three left out: what a call that does not touch them starts from
 abbrev pub bareOf : Stored → Endpoint
-bareOf s = wholeOf s noBytes noBytes
+bareOf s = wholeOf s noBytes noBytes noRecord
 
--- the value's bytes count where a value is taken; of the words' nobody looks past their count, so they count as they stand
+-- the value's bytes count where a value is taken; of the words' and the error record's nobody looks past their count, so
+-- they count as they stand
 abbrev pub heldIn : Record → List ℕ
 heldIn r = cond (isSet (r .stored .taken)) (r .value) noBytes
 
 abbrev pub endpointOf : Record → Endpoint
-endpointOf r = wholeOf (r .stored) (heldIn r) (r .words)
+endpointOf r = wholeOf (r .stored) (heldIn r) (r .words) (r .errorinfo)
 
 abbrev pub storedOf : Endpoint → Stored
 storedOf e = record {
@@ -137,16 +148,18 @@ storedOf e = record {
   hasasked = flagOf (isAsked (e .setup .pending));
   requests = e .setup .requests;
   queue = queueNumber (e .setup .queue);
+  invoked = flagOf (e .setup .invoked);
   notready = flagOf (e .station .notready);
   words = e .words .count;
+  errorinfo = e .errorinfo .count;
   taken = flagOf (e .value .taken);
 }
 
-abbrev pub recordWith : Stored → List ℕ → List ℕ → Record
-recordWith s value words = record { stored = s; value = value; words = words }
+abbrev pub recordWith : Stored → List ℕ → List ℕ → List ℕ → Record
+recordWith s value words errorinfo = record { stored = s; value = value; words = words; errorinfo = errorinfo }
 
 abbrev pub recordOf : Endpoint → Record
-recordOf e = recordWith (storedOf e) (e .value .bytes) (e .words .bytes)
+recordOf e = recordWith (storedOf e) (e .value .bytes) (e .words .bytes) (e .errorinfo .bytes)
 
 -- ---- an end, in numbers
 -- Terminate, no command waits, and no value is taken; all else as it stands
@@ -172,13 +185,15 @@ endedStored s = record {
   hasasked = s .hasasked;
   requests = s .requests;
   queue = queueNumber Empty;
+  invoked = s .invoked;
   notready = s .notready;
   words = s .words;
+  errorinfo = s .errorinfo;
   taken = 0;
 }
 
 abbrev pub endedRecord : Record → Record
-endedRecord r = recordWith (endedStored (r .stored)) noBytes (r .words)
+endedRecord r = recordWith (endedStored (r .stored)) noBytes (r .words) (r .errorinfo)
 
 -- ---- the two are inverse, and an end in numbers is the endpoint's
 pub record RecordTheorem : Type 0 where

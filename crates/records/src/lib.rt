@@ -2,7 +2,9 @@
 // bytes it holds it is some connection's.
 ghost use mathlib.Core.Path.{_≡_};
 ghost use Rattle.endpoint.specs.Endpoint.{bare, coreOf};
-ghost use Rattle.endpoint.specs.Table.{rowOf, isSetup};
+ghost use Rattle.frame.specs.declared.Command.the-variants as K;
+ghost use Rattle.frame.specs.Control.{is};
+ghost use Rattle.endpoint.specs.Table.{rowOf, requestOf};
 ghost use Rattle.endpoint.specs.Time.{isExpired};
 ghost use Rattle.records.specs.Records.{isSet, flagOf, stateFrom, timestampFrom, isAt, timeIn, pendingFrom, isAsked};
 ghost use Rattle.records.specs.Records.{askedIn, queueFrom, queueNumber, bareOf, storedOf, endedStored};
@@ -17,8 +19,9 @@ use endpoint::Timestamp;
 use endpoint::Timestamps;
 use endpoint::time::passed;
 
-// All that a connection keeps, but for the bytes of its value and of its words. A flag is 0, or set; a timestamp counts
-// where its flag is set. What a call looks at in every record of the table, the timer and the CID, stands first.
+// All that a connection keeps, but for the bytes of its value, of its words and of its error record. A flag is 0, or set;
+// a timestamp counts where its flag is set. What a call looks at in every record of the table, the timer and the CID,
+// stands first.
 #[repr(C)]
 pub struct Stored {
     // the clock reading where the timer starts
@@ -29,8 +32,8 @@ pub struct Stored {
     pub connection: u32,
     pub age: u32,
     pub station: u32,
-    // 0 Close, 1 Starting, 2 EstablishPending, 3 Establish, 4 ParamVerify, 5 FuncRunning, 6 RefreshPending, 7 Refresh;
-    // else Terminate
+    // 0 Close, 1 Starting, 2 EstablishPending, 3 Establish, 4 ParamVerify, 5 FuncRunning, 6 RefreshPending, 7 Refresh,
+    // 9 TerminateMore; else Terminate
     pub state: u8,
     // of the settings too
     pub slave: u8,
@@ -48,11 +51,16 @@ pub struct Stored {
     pub hasasked: u8,
     // setup requests written since the last start or loading
     pub requests: u8,
-    // a master's queue: 0 Empty, 1 Waiting; else Closed
+    // a master's queue: 0 Empty, 1 InvokeFunc, 2 ReadErrorInfo, 3 WriteErrorInfo; else Closed
     pub queue: u8,
+    // S-InvokeFunc has gone since the last start or loading
+    pub invoked: u8,
     pub notready: u8,
-    // how many words its user has handed over: a master's queued command, a station's result; 0 none
+    // how many words its user has handed over: a master's queued S-InvokeFunc, a station's result; 0 none
     pub words: u8,
+    // how many words the error record has that its user has handed over: a master's queued S-WriteErrorInfo, a station's
+    // own record; 0 none
+    pub errorinfo: u8,
     // whether a value was accepted in this Refresh
     pub taken: u8,
 }
@@ -64,6 +72,8 @@ pub struct Record {
     pub value: [u8; 100],
     // the words that its user handed over, from the front
     pub words: [u8; 100],
+    // the error record that its user handed over, from the front
+    pub errorinfo: [u8; 56],
 }
 
 pub fn is_set(x: u8) -> bool
@@ -90,6 +100,7 @@ fn state_from(x: u8) -> State
         5 => State::FuncRunning,
         6 => State::RefreshPending,
         7 => State::Refresh,
+        9 => State::TerminateMore,
         _ => State::Terminate,
     }
 }
@@ -107,6 +118,7 @@ fn state_number(s: State) -> u8
         State::RefreshPending => 6,
         State::Refresh => 7,
         State::Terminate => 8,
+        State::TerminateMore => 9,
     }
 }
 
@@ -169,7 +181,9 @@ fn queue_from(x: u8) -> Queue
 {
     match x {
         0 => Queue::Empty,
-        1 => Queue::Waiting,
+        1 => Queue::InvokeFunc,
+        2 => Queue::ReadErrorInfo,
+        3 => Queue::WriteErrorInfo,
         _ => Queue::Closed,
     }
 }
@@ -179,8 +193,10 @@ fn queue_number(q: Queue) -> u8
 {
     match q {
         Queue::Empty => 0,
-        Queue::Waiting => 1,
-        Queue::Closed => 2,
+        Queue::InvokeFunc => 1,
+        Queue::ReadErrorInfo => 2,
+        Queue::WriteErrorInfo => 3,
+        Queue::Closed => 4,
     }
 }
 
@@ -211,11 +227,13 @@ pub fn core_of(s: Stored) -> Core
             offset: s.offset,
             requests: s.requests,
             queue: queue_from(s.queue),
+            invoked: s.invoked != 0,
         },
         station: Station {
             notready: s.notready != 0,
         },
         words: s.words,
+        errorinfo: s.errorinfo,
         taken: s.taken != 0,
     }
 }
@@ -252,8 +270,10 @@ pub fn stored_of(e: Core) -> Stored
         hasasked: flag_of(is_asked(pending)),
         requests: setup.requests,
         queue: queue_number(queue),
+        invoked: flag_of(setup.invoked),
         notready: flag_of(e.station.notready),
         words: e.words,
+        errorinfo: e.errorinfo,
         taken: flag_of(e.taken),
     }
 }
@@ -285,9 +305,9 @@ pub fn is_over(s: Stored, clock: u64) -> bool
     false
 }
 
-// Whether the connection is in setup, by its numbers.
-pub fn is_setup(s: Stored) -> bool
-    ensures { λ r. ⌜ r ≡ isSetup (stateFrom (s .state)) ⌝ }
+// Whether S-RefreshReady is due, by its numbers: in ParamVerify and FuncRunning.
+pub fn is_readying(s: Stored) -> bool
+    ensures { λ r. ⌜ r ≡ is (requestOf (stateFrom (s .state))) K.RefreshReady ⌝ }
 {
-    (0 < s.state) & (s.state < 7)
+    (s.state == 4) | (s.state == 5)
 }

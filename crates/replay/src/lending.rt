@@ -55,11 +55,55 @@ pub(crate) fn clear_result(rs: [Record; 70], n: usize, c: Call) -> Answered
     }
 }
 
+pub(crate) fn clear_record(rs: [Record; 70], n: usize, c: Call) -> Answered
+    requires { ⌜ n ≤ 70 ⌝ }
+{
+    let mut a = rs;
+    let called = gateway::calls::clear_record(&mut a[..n], c);
+    Answered {
+        records: a,
+        called: called,
+    }
+}
+
+pub(crate) fn read_error(rs: [Record; 70], n: usize, c: Call) -> Answered
+    requires { ⌜ n ≤ 70 ⌝ }
+{
+    let mut a = rs;
+    let called = gateway::calls::read_error(&mut a[..n], c);
+    Answered {
+        records: a,
+        called: called,
+    }
+}
+
 pub(crate) fn set_result(rs: [Record; 70], n: usize, c: Call, bytes: &[u8]) -> Answered
     requires { ⌜ n ≤ 70 ⌝ }
 {
     let mut a = rs;
     let called = gateway::calls::set_result(&mut a[..n], c, bytes);
+    Answered {
+        records: a,
+        called: called,
+    }
+}
+
+pub(crate) fn set_record(rs: [Record; 70], n: usize, c: Call, bytes: &[u8]) -> Answered
+    requires { ⌜ n ≤ 70 ⌝ }
+{
+    let mut a = rs;
+    let called = gateway::calls::set_record(&mut a[..n], c, bytes);
+    Answered {
+        records: a,
+        called: called,
+    }
+}
+
+pub(crate) fn write_error(rs: [Record; 70], n: usize, c: Call, bytes: &[u8]) -> Answered
+    requires { ⌜ n ≤ 70 ⌝ }
+{
+    let mut a = rs;
+    let called = gateway::calls::write_error(&mut a[..n], c, bytes);
     Answered {
         records: a,
         called: called,

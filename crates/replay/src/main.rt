@@ -16,6 +16,7 @@ use libc::STDOUT_FILENO;
 use records::Record;
 use records::Stored;
 use text::Act;
+use text::Kind;
 use text::Line;
 use text::Parameter;
 
@@ -82,12 +83,15 @@ fn blank() -> Record {
             hasasked: 0,
             requests: 0,
             queue: 0,
+            invoked: 0,
             notready: 0,
             words: 0,
+            errorinfo: 0,
             taken: 0,
         },
         value: [0; 100],
         words: [0; 100],
+        errorinfo: [0; 56],
     }
 }
 
@@ -199,6 +203,18 @@ fn clear_result(r: Replay, c: Call, out: &[u8]) -> Replay {
     after(r, answered, out)
 }
 
+fn clear_record(r: Replay, c: Call, out: &[u8]) -> Replay {
+    let records = r.records;
+    let answered = lending::clear_record(records, records_within(r.lent), c);
+    after(r, answered, out)
+}
+
+fn read_error(r: Replay, c: Call, out: &[u8]) -> Replay {
+    let records = r.records;
+    let answered = lending::read_error(records, records_within(r.lent), c);
+    after(r, answered, out)
+}
+
 fn stop(r: Replay, c: Call, out: &mut [u8]) -> Replay {
     let records = r.records;
     let answered = lending::stop(records, records_within(r.lent), c, out);
@@ -223,34 +239,51 @@ fn act_on(r: Replay, act: Act, clock: u64, entry: usize, out: &mut [u8]) -> Repl
         Act::NotReady => set_not_ready(r, with_not_ready(c), out),
         Act::Ready => set_not_ready(r, c, out),
         Act::NoResult => clear_result(r, c, out),
+        Act::NoRecord => clear_record(r, c, out),
+        Act::ReadError => read_error(r, c, out),
     }
 }
 
-fn send_bytes(r: Replay, c: Call, bytes: &[u8], n: usize, out: &mut [u8]) -> Replay {
+fn send(r: Replay, c: Call, bytes: &[u8], out: &mut [u8]) -> Replay {
     let records = r.records;
-    let k = within(n, bytes);
-    let answered = lending::send(records, records_within(r.lent), c, &bytes[..k], out);
+    let answered = lending::send(records, records_within(r.lent), c, bytes, out);
     after(r, answered, out)
 }
 
-fn send(r: Replay, clock: u64, entry: usize, line: &[u8], start: usize, out: &mut [u8]) -> Replay {
-    let gateway = r.gateway;
-    let mut bytes = io::buffer();
-    let n = text::hex::bytes_from(line, start, &mut bytes);
-    send_bytes(r, call_at(gateway, clock, entry), &bytes, n, out)
-}
-
-fn set_result_bytes(r: Replay, c: Call, bytes: &[u8], n: usize) -> Replay {
+fn set_result(r: Replay, c: Call, bytes: &[u8], out: &[u8]) -> Replay {
     let records = r.records;
-    let k = within(n, bytes);
-    let answered = lending::set_result(records, records_within(r.lent), c, &bytes[..k]);
-    after(r, answered, &[])
+    let answered = lending::set_result(records, records_within(r.lent), c, bytes);
+    after(r, answered, out)
 }
 
-fn set_result(r: Replay, c: Call, line: &[u8], start: usize) -> Replay {
+fn set_record(r: Replay, c: Call, bytes: &[u8], out: &[u8]) -> Replay {
+    let records = r.records;
+    let answered = lending::set_record(records, records_within(r.lent), c, bytes);
+    after(r, answered, out)
+}
+
+fn write_error(r: Replay, c: Call, bytes: &[u8], out: &[u8]) -> Replay {
+    let records = r.records;
+    let answered = lending::write_error(records, records_within(r.lent), c, bytes);
+    after(r, answered, out)
+}
+
+fn hand_bytes(r: Replay, kind: Kind, c: Call, bytes: &[u8], n: usize, out: &mut [u8]) -> Replay {
+    let k = within(n, bytes);
+    let handed = &bytes[..k];
+    match kind {
+        Kind::Value => send(r, c, handed, out),
+        Kind::Result => set_result(r, c, handed, out),
+        Kind::Record => set_record(r, c, handed, out),
+        Kind::WriteError => write_error(r, c, handed, out),
+    }
+}
+
+// A call that bytes follow, beside a clock reading and an entry.
+fn hand(r: Replay, kind: Kind, c: Call, line: &[u8], start: usize, out: &mut [u8]) -> Replay {
     let mut bytes = io::buffer();
     let n = text::hex::bytes_from(line, start, &mut bytes);
-    set_result_bytes(r, c, &bytes, n)
+    hand_bytes(r, kind, c, &bytes, n, out)
 }
 
 fn invoke_bytes(r: Replay, c: Call, bytes: &[u8], n: usize) -> Replay {
@@ -333,11 +366,19 @@ fn run(r: Replay, line: &[u8], out: &mut [u8]) -> Replay {
     match parsed {
         Line::Load => load(r, line),
         Line::Timed { act, clock, entry } => act_on(r, act, clock, entry as usize, out),
-        Line::Send {
+        Line::Data {
+            kind,
             clock,
             entry,
             start,
-        } => send(r, clock, entry as usize, line, start, out),
+        } => hand(
+            r,
+            kind,
+            call_at(gateway, clock, entry as usize),
+            line,
+            start,
+            out,
+        ),
         Line::Invoke {
             clock,
             entry,
@@ -349,11 +390,6 @@ fn run(r: Replay, line: &[u8], out: &mut [u8]) -> Replay {
             line,
             start,
         ),
-        Line::Result {
-            clock,
-            entry,
-            start,
-        } => set_result(r, call_at(gateway, clock, entry as usize), line, start),
         Line::Deliver { clock, start } => deliver(r, clock, line, start, out),
         Line::Check { start } => with_going(r, check(line, start)),
         Line::Set { parameter, n } => set(r, parameter, n),

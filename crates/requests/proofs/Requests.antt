@@ -75,7 +75,7 @@ module _ (n : ℕ) (d : Lent) (count : ℕ) (H : Held n d count) (t : ℕ) where
     whole = like-whole (like-tick d t) (H .whole);
     same = λ h. let k : n < d .gateway .count = rw (like-tick d t .counts) at h in
         ap (λ (e : Endpoint). e .setup .requests) (ticked-at d t n (H .whole) k)
-        ∙ ap (λ (s : Kept). s .2) (tick-keeps (endpointAt d n) t) ∙ H .same k;
+        ∙ ap (λ (s : Kept). s .3) (tick-keeps (endpointAt d n) t) ∙ H .same k;
     most = H .most;
   }
 

@@ -6,12 +6,12 @@ use Prim.Native.Nat.{ℕ}
 use lib.Dec.{eqb}
 use borrow.Author.Tests.{eqb-true}
 use Rattle.endpoint.specs.declared.State.{State}
-use Rattle.endpoint.specs.declared.State.the-variants.{Close, Terminate}
+use Rattle.endpoint.specs.declared.State.the-variants.{Close, Terminate, TerminateMore}
 use Rattle.endpoint.specs.Endpoint.{Endpoint}
 use Rattle.endpoint.specs.declared.Reason.the-variants as R
 use Rattle.endpoint.specs.declared.Answer.{Answer}
 use Rattle.endpoint.specs.declared.Answer.the-variants.{Done, Dropped, Ended}
-use Rattle.endpoint.specs.Table.{rowOf, isState}
+use Rattle.endpoint.specs.Table.{rowOf, isState, isTerminated}
 use Rattle.endpoint.specs.Time.{isExpired, endedOf, afterTick}
 use Rattle.transitions.specs.ByCall.{startedOf, restartedOf}
 use Rattle.steps.specs.Frames.{nothing}
@@ -40,8 +40,13 @@ tick-expired e t h = cond-true (isExpired e t) (endedOf e) e h
 pub tick-timely : (e : Endpoint) (t : ℕ) → isExpired e t ≡ false → afterTick e t ≡ e
 tick-timely e t h = cond-false (isExpired e t) (endedOf e) e h
 
-not-closed : (s : State) → isState s Terminate ≡ true → isState s Close ≡ false
-not-closed s h = ap (λ (n : ℕ). eqb n (rowOf Close)) (eqb-true (rowOf s) (rowOf Terminate) h)
+not-closed : (s : State) → isTerminated s ≡ true → isState s Close ≡ false
+not-closed s h =
+    bcase (isState s Terminate) (λ x. apart (rowOf Terminate) x refl)
+    (λ x. let y : isState s TerminateMore ≡ true = rw x at h in apart (rowOf TerminateMore) y refl)
+  where
+    apart : (n : ℕ) → eqb (rowOf s) n ≡ true → eqb n (rowOf Close) ≡ false → isState s Close ≡ false
+    apart n x y = ap (λ (m : ℕ). eqb m (rowOf Close)) (eqb-true (rowOf s) n x) ∙ y
 
 start-refused : (e : Endpoint) (t : ℕ) (m b : Bool) → b ≡ false
     → cond (m && b) (outcome Done (startedOf e t) nothing) (dropped e (Dropped R.Turn)) ≡ dropped e (Dropped R.Turn)
@@ -57,7 +62,7 @@ idle-at e t =
       comes = call-expired e t (act restart) x
           ∙ ap (λ (y : Endpoint). outcome (Ended R.Expired) y nothing) (sym (tick-expired e t x));
     })
-    (λ x. bcase (isState (e .state) Terminate)
+    (λ x. bcase (isTerminated (e .state))
     (λ s. record {
       by = start;
       answer = Dropped R.Turn;
@@ -69,7 +74,7 @@ idle-at e t =
       by = restart;
       answer = Dropped R.Turn;
       comes = call-timely e t (act restart) x
-          ∙ cond-false (isState (e .state) Terminate) (outcome Done (restartedOf e) nothing)
+          ∙ cond-false (isTerminated (e .state)) (outcome Done (restartedOf e) nothing)
           (dropped e (Dropped R.Turn)) s
           ∙ ap (λ (y : Endpoint). dropped y (Dropped R.Turn)) (sym (tick-timely e t x));
     }))

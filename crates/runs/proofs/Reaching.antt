@@ -20,7 +20,8 @@ use Rattle.endpoint.specs.Time.{isExpired, afterTick}
 use Rattle.steps.specs.Frames.{nothing}
 use Rattle.steps.specs.Calls.{Outcome}
 use Rattle.steps.specs.Steps as S
-use Rattle.steps.specs.Steps.{Act, start, stop, restart, setNotReady, setResult, clearResult, invoke}
+use Rattle.steps.specs.Steps.{Act, start, stop, restart, setNotReady, setResult, clearResult, setRecord, clearRecord}
+use Rattle.steps.specs.Steps.{invoke, readError, writeError}
 use Rattle.steps.proofs.CallLaws.{step-laws}
 use Rattle.steps.proofs.Dispatch.{cond-true, cond-false}
 use Rattle.steps.proofs.Keeps.{bcase}
@@ -47,6 +48,10 @@ lends room restart = false
 lends room (setNotReady b) = false
 lends room (setResult body) = false
 lends room clearResult = false
+lends room (setRecord body) = false
+lends room clearRecord = false
+lends room readError = false
+lends room (writeError body) = false
 lends room (invoke word bytes) = false
 
 pub act-in : (d : Lent) (t room : ℕ) (a : Act) (k : ℕ)
@@ -58,6 +63,10 @@ act-in d t room restart k = refl
 act-in d t room (setNotReady b) k = refl
 act-in d t room (setResult body) k = refl
 act-in d t room clearResult k = refl
+act-in d t room (setRecord body) k = refl
+act-in d t room clearRecord k = refl
+act-in d t room readError k = refl
+act-in d t room (writeError body) k = refl
 act-in d t room (invoke word bytes) k = refl
 
 -- there is a connection at k, within the slice, and its timer has not expired

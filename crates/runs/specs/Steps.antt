@@ -4,12 +4,14 @@ use mathlib.Core.List.{List}
 use Prim.Native.Nat.{ℕ}
 use lib.Dec.{eqb}
 use Rattle.steps.specs.Frames.{nothing}
-use Rattle.steps.specs.Steps.{Act, start, stop, restart, setNotReady, setResult, clearResult, invoke}
+use Rattle.steps.specs.Steps.{Act, start, stop, restart, setNotReady, setResult, clearResult, setRecord, clearRecord}
+use Rattle.steps.specs.Steps.{invoke, readError, writeError}
 use Rattle.records.specs.declared.Record.{Record}
 use Rattle.gateway.specs.Tables.{Lent}
 use Rattle.gateway.specs.Loading.{loadedOf}
 use Rattle.gateway.specs.Calls.{Entry, Absent, At, Result, result, startIn, sendIn, stopIn, restartIn, setNotReadyIn}
-use Rattle.gateway.specs.Calls.{setResultIn, clearResultIn, invokeIn, showIn, deliverIn}
+use Rattle.gateway.specs.Calls.{setResultIn, clearResultIn, setRecordIn, clearRecordIn, invokeIn, readErrorIn}
+use Rattle.gateway.specs.Calls.{writeErrorIn, showIn, deliverIn}
 
 -- every call but load, for whatever entry
 pub data Call : Type 0 where
@@ -31,7 +33,11 @@ actIn d t room restart n = restartIn d t n
 actIn d t room (setNotReady b) n = setNotReadyIn d t n b
 actIn d t room (setResult body) n = setResultIn d t n body
 actIn d t room clearResult n = clearResultIn d t n
+actIn d t room (setRecord body) n = setRecordIn d t n body
+actIn d t room clearRecord n = clearRecordIn d t n
 actIn d t room (invoke word bytes) n = invokeIn d t n word bytes
+actIn d t room readError n = readErrorIn d t n
+actIn d t room (writeError body) n = writeErrorIn d t n body
 
 abbrev pub callIn : Lent → ℕ → ℕ → Call → Result
 callIn d t room (act a n) = actIn d t room a n

@@ -1,8 +1,7 @@
 -- The laws of the calls, all of them.
 use mathlib.Core.Path.{_≡_, refl, sym, ap, subst}
 use Prim.Native.Nat.{ℕ}
-use Rattle.endpoint.specs.declared.Settings.{Settings}
-use Rattle.endpoint.specs.Endpoint.{Endpoint, Words}
+use Rattle.endpoint.specs.Endpoint.{Endpoint}
 use Rattle.endpoint.specs.declared.Reason.{Reason}
 use Rattle.endpoint.specs.declared.Answer.the-variants.{Dropped}
 use Rattle.steps.specs.Calls.{dropped}
@@ -22,7 +21,7 @@ act-keeps e t =
 
 keeps : (e : Endpoint) (t : ℕ) (call : Call) → stepOf e t call .endpoint .settings ≡ e .settings
 keeps e t (act a) = act-keeps e t a
-keeps e t (send value) = ap (λ (s : Settings × Words). s .0) (P.send-keeps e t value)
+keeps e t (send value) = ap (λ (s : P.Lasting). s .0) (P.send-keeps e t value)
 keeps e t (deliver f body) = ap (λ (s : P.Kept). s .0) (P.deliver-keeps e t f body)
 keeps e t show = refl
 
@@ -65,10 +64,15 @@ step-laws = record {
   result-set = λ e. D.result-set e 0;
   result-cleared = λ e. D.result-cleared e 0;
   command-queued = λ e. D.command-queued e 0;
+  record-set = λ e. D.record-set e 0;
+  record-cleared = λ e. D.record-cleared e 0;
+  read-queued = λ e. D.read-queued e 0;
+  write-queued = λ e. D.write-queued e 0;
   send-done = D.send-done;
   stop-done = D.stop-done;
   refresh-done = D.refresh-done;
   request-done = D.request-done;
+  report-done = D.report-done;
   disconnect-done = D.disconnect-done;
   reply-done = D.reply-done;
 }

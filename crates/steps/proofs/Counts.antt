@@ -13,10 +13,13 @@ use Rattle.frame.specs.Control.{is}
 use Rattle.endpoint.specs.declared.State.{State}
 use Rattle.endpoint.specs.declared.State.the-variants.{Close, Starting, EstablishPending, Establish, ParamVerify}
 use Rattle.endpoint.specs.declared.State.the-variants.{FuncRunning, RefreshPending, Refresh, Terminate}
+use Rattle.endpoint.specs.declared.State.the-variants.{TerminateMore}
+use Rattle.endpoint.specs.declared.Queue.{Queue}
+use Rattle.endpoint.specs.declared.Queue.the-variants as Q
 use Rattle.endpoint.specs.Endpoint.{Endpoint}
 use Rattle.endpoint.specs.Answers.{firstOf, isDone, isDropped}
 use Rattle.endpoint.specs.Table.{requestOf}
-use Rattle.endpoint.specs.Due.{isCommandDue, requestDue, requestLimit}
+use Rattle.endpoint.specs.Due.{isCommandDue, queuedIn, requestDue, requestLimit}
 use Rattle.steps.specs.Calls.{Outcome, sendOf, stopFaults, stopOf}
 use Rattle.steps.specs.Deliveries.{requestFaults, repliedOf, isResult, replyFaults, takeReply, deliverOf}
 use Rattle.steps.specs.Steps.{Act, begins, Call, act, send, deliver, show, actOf, stepOf}
@@ -41,9 +44,17 @@ request FuncRunning = (refl, refl)
 request RefreshPending = (refl, refl)
 request Refresh = (refl, refl)
 request Terminate = (refl, refl)
+request TerminateMore = (refl, refl)
+
+queued : (q : Queue) → Countable (queuedIn q)
+queued Q.Empty = (refl, refl)
+queued Q.InvokeFunc = (refl, refl)
+queued Q.ReadErrorInfo = (refl, refl)
+queued Q.WriteErrorInfo = (refl, refl)
+queued Q.Closed = (refl, refl)
 
 due : (e : Endpoint) → Countable (requestDue e)
-due e = bcase (isCommandDue e) (λ h. rw h (refl, refl)) (λ h. rw h (request (e .state)))
+due e = bcase (isCommandDue e) (λ h. rw h (queued (e .setup .queue))) (λ h. rw h (request (e .state)))
 
 -- the count after a call that begins it anew or not, by what is written; and within its limit
 abbrev Counted : Endpoint → Bool → Outcome → Type 0
@@ -55,7 +66,7 @@ Counted e begins o =
 uncounted : (e : Endpoint) (o : Outcome) → kept (o .endpoint) ≡ kept e → requestsIn (o .writes) ≡ 0
     → Counted e false o
 uncounted e o k w =
-    let q : o .endpoint .setup .requests ≡ e .setup .requests = ap (λ (s : Kept). s .2) k in
+    let q : o .endpoint .setup .requests ≡ e .setup .requests = ap (λ (s : Kept). s .3) k in
     (omega arith, λ h. omega (arith, h))
 
 -- S-Disconnect is not counted, and no reply is

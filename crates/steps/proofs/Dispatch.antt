@@ -1,11 +1,14 @@
 -- Which of its parts a delivery comes to.
-use mathlib.Core.Path.{_≡_, _∙_}
+use mathlib.Core.Path.{_≡_, sym, ap, _∙_}
 use mathlib.Core.Bool.{Bool, true, false, cond, Bool·beq}
 use mathlib.Core.List.{List}
 use Prim.Native.Nat.{ℕ}
 use Rattle.frame.specs.declared.Command.the-variants as K
 use Rattle.frame.specs.declared.Fields.{Fields}
-use Rattle.frame.specs.Control.{is}
+use Rattle.frame.specs.Control.{codeOf, commandOf, is}
+use Rattle.frame.specs.declared.Command.{Command}
+use Rattle.frame.proofs.Digits.{command-of-code}
+use borrow.Author.Tests.{eqb-true}
 use Rattle.endpoint.specs.Endpoint.{Endpoint}
 use Rattle.endpoint.specs.declared.Reason.the-variants as R
 use Rattle.endpoint.specs.declared.Answer.the-variants.{Dropped}
@@ -17,6 +20,10 @@ cond-true b x y h = rw h
 
 pub cond-false : {A : Type 0} (b : Bool) (x y : A) → b ≡ false → cond b x y ≡ y
 cond-false b x y h = rw h
+
+-- a command that is another is the other
+pub is-command : (k m : Command) → is k m ≡ true → k ≡ m
+is-command k m h = sym (command-of-code k) ∙ ap commandOf (eqb-true (codeOf k) (codeOf m) h) ∙ command-of-code m
 
 module _ (e : Endpoint) (t : ℕ) (f : Fields) (body : List ℕ) where
   pub deliver-echo : Bool·beq (f .application) (e .settings .slave) ≡ true

@@ -1,6 +1,6 @@
 -- What done tells of each call, and what dropped leaves.
 use mathlib.Core.Path.{_≡_, refl, sym, ap, _∙_}
-use mathlib.Core.Bool.{Bool, true, false, _&&_, _||_, not, Bool·beq, true≢false, false≢true}
+use mathlib.Core.Bool.{Bool, true, false, _&&_, _||_, not, and-false, Bool·beq, true≢false, false≢true}
 use mathlib.Core.List.{List}
 use mathlib.Core.Logic.{_⊎_, inl, inr}
 use Prim.Native.Nat.{ℕ, _<_}
@@ -13,30 +13,35 @@ use Rattle.frame.specs.Control.{is}
 use Rattle.words.specs.Bytes.{same}
 use mathlib.Mathlib.Data.Bool.Basic.{and-elim-left as and-left, and-elim-right as and-right}
 use Rattle.words.proofs.Alike.{same-eq}
-use Rattle.endpoint.specs.declared.State.the-variants.{Close, Refresh, Terminate}
+use Rattle.endpoint.specs.declared.State.the-variants.{Close, Refresh}
 use Rattle.endpoint.specs.declared.Pending.{Pending}
 use Rattle.endpoint.specs.declared.Pending.the-variants.{Nothing, Asked}
 use Rattle.endpoint.specs.Endpoint.{Endpoint}
 use Rattle.endpoint.specs.declared.Reason.{Reason}
 use Rattle.endpoint.specs.declared.Answer.{Answer}
 use Rattle.endpoint.specs.declared.Answer.the-variants.{Done, Dropped, Ended}
-use Rattle.endpoint.specs.Answers.{firstOf, isDone, isDropped}
-use Rattle.endpoint.specs.Table.{isState, isSetup}
+use Rattle.endpoint.specs.Answers.{recordFaults, firstOf, isDone, isDropped}
+use Rattle.endpoint.specs.Table.{isState, isSetup, isTerminated, nextOf, isNo}
 use Rattle.endpoint.specs.Due.{requestDue, isPending, answersTo, mayRequest, requestLimit, isExhausted, mayQueue}
+use Rattle.endpoint.specs.Due.{mayQueueRead}
+use Rattle.errors.specs.Reading.{isRecord}
 use Rattle.endpoint.specs.Time.{isAbove, endedOf, timeOf}
-use Rattle.steps.specs.Frames.{nothing, setupData, dueData, showWidth}
+use Rattle.steps.specs.Frames.{nothing, setupData, dueData, showWidth, hasRecord}
 use Rattle.steps.specs.Calls.{Outcome, outcome, dropped, refused, startOf, restartOf, setNotReadyOf}
-use Rattle.steps.specs.Calls.{handFaults, setResultOf, clearResultOf, commandData, invokeOf}
+use Rattle.steps.specs.Calls.{handFaults, setResultOf, clearResultOf, commandData, invokeOf, setRecordOf}
+use Rattle.steps.specs.Calls.{clearRecordOf, readErrorOf, writeErrorOf}
 use Rattle.steps.specs.Calls.{sendFaults, sendOf, stopFaults, stopOf}
-use Rattle.steps.specs.Deliveries.{refreshFaults, isWidth, requestFaults, isResult, replyFaults, takeRefresh}
+use Rattle.steps.specs.Deliveries.{refreshFaults, isTurn, isWidth, isUsers, requestFaults, isResult, replyFaults}
+use Rattle.steps.specs.Deliveries.{takeRefresh}
 use Rattle.steps.specs.Deliveries.{takeRequest, takeReply, deliverOf}
 use Rattle.steps.specs.Laws.{StartDone, RestartDone, NotReadySet, ResultSet, ResultCleared, CommandQueued}
-use Rattle.steps.specs.Laws.{RefreshSent, RequestSent, StopDone}
-use Rattle.steps.specs.Laws.{RefreshTaken, RequestTaken, DisconnectTaken, ReplyTaken}
+use Rattle.steps.specs.Laws.{RecordSet, RecordCleared, ReadQueued, WriteQueued, RefreshSent, RequestSent, StopDone}
+use Rattle.steps.specs.Laws.{RefreshTaken, RequestTaken, ReportTaken, DisconnectTaken, ReplyTaken}
 use Rattle.steps.proofs.Carried.{may-request, master-requests}
 use Rattle.steps.proofs.Dispatch.{cond-true, deliver-echo, deliver-refresh, deliver-request, deliver-reply}
 use Rattle.steps.proofs.Firsts.{not-dropped, not-soon, is-done, first-done, sent-width, neither}
 use Rattle.steps.proofs.Keeps.{bcase}
+use Rattle.steps.proofs.Dispatch.{is-command}
 use Rattle.steps.proofs.Quiet.{not-done, plain-done}
 
 -- a dropped answer is not done
@@ -67,7 +72,7 @@ module _ (e : Endpoint) (t : ℕ) where
 
   pub restart-done : restartOf e .answer ≡ Done → RestartDone e
   restart-done d =
-      let h = plain-done (isState (e .state) Terminate) _ e _ (λ n. refl) d in
+      let h = plain-done (isTerminated (e .state)) _ e _ (λ n. refl) d in
       record { terminated = h; comes = cond-true _ _ _ h }
 
   pub not-ready-set : (b : Bool) → setNotReadyOf e b .answer ≡ Done → NotReadySet e b
@@ -96,6 +101,34 @@ module _ (e : Endpoint) (t : ℕ) where
       let l = length (commandData word bytes) in
       let h = plain-done (isDone (firstOf (handFaults (mayQueue e) l))) _ e _ (λ n. n) d in
       record { may = hand-turn (mayQueue e) l h; comes = cond-true _ _ _ h }
+
+  -- an error record is handed over in turn
+  record-turn : (turn : Bool) (body : List ℕ) → isDone (firstOf (recordFaults (not turn) (not (isRecord body)))) ≡ true
+      → turn ≡ true
+  record-turn turn body h =
+      let f = recordFaults (not turn) (not (isRecord body)) in not-false turn (first-done f (is-done (firstOf f) h) .turn)
+
+  pub record-set : (body : List ℕ) → setRecordOf e body .answer ≡ Done → RecordSet e body
+  record-set body d =
+      let f = recordFaults (not (e .settings .slave)) (not (isRecord body)) in
+      let h = plain-done (isDone (firstOf f)) _ e _ (λ n. n) d in
+      record { slave = record-turn (e .settings .slave) body h; comes = cond-true _ _ _ h }
+
+  pub record-cleared : clearRecordOf e .answer ≡ Done → RecordCleared e
+  record-cleared d =
+      let h = plain-done (e .settings .slave) _ e _ (λ n. refl) d in
+      record { slave = h; comes = cond-true _ _ _ h }
+
+  pub read-queued : readErrorOf e .answer ≡ Done → ReadQueued e
+  read-queued d =
+      let h = plain-done (mayQueueRead e) _ e _ (λ n. refl) d in
+      record { may = h; comes = cond-true _ _ _ h }
+
+  pub write-queued : (body : List ℕ) → writeErrorOf e body .answer ≡ Done → WriteQueued e body
+  write-queued body d =
+      let f = recordFaults (not (mayQueue e)) (not (isRecord body)) in
+      let h = plain-done (isDone (firstOf f)) _ e _ (λ n. n) d in
+      record { may = record-turn (mayQueue e) body h; comes = cond-true _ _ _ h }
 
   -- ---- send
   above-sent : (n : ℕ) → firstOf (sendFaults e t n) ≡ Done → isAbove (e .timestamps .sent) (timeOf e t) ≡ true
@@ -156,7 +189,7 @@ module _ (e : Endpoint) (t : ℕ) where
       let above = isAbove (e .timestamps .sent) (timeOf e t) in
       bcase (isDropped a) (λ h. absurd (dropped-not-done a h (rw h at d)))
       (λ h.
-      let n = neither (isState (e .state) Close) (isState (e .state) Terminate)
+      let n = neither (isState (e .state) Close) (isTerminated (e .state))
       (not-dropped (stopFaults e t) refl h .turn) in
       let s : (not (e .settings .slave) && not above) ≡ false = not-soon (stopFaults e t) refl refl refl h in
       record {
@@ -191,19 +224,41 @@ module _ (e : Endpoint) (t : ℕ) where
         comes = rw d;
       }
 
+  -- a request that is done is one that the state takes
+  takes : (f : Fields) → not (isTurn e (f .command)) ≡ false → isNo (nextOf (f .command) (e .state)) ≡ false
+  takes f h =
+      let no = isNo (nextOf (f .command) (e .state)) in
+      not-true no (and-left (not no) (not (is (f .command) K.ReadErrorInfo) || hasRecord e)
+      (not-false (isTurn e (f .command)) h))
+
   pub request-done : (f : Fields) (body : List ℕ) → is (f .command) K.Disconnect ≡ false
-      → takeRequest e t f body .answer ≡ Done
+      → is (f .command) K.WriteErrorInfo ≡ false → takeRequest e t f body .answer ≡ Done
       → RequestTaken e t f body
-  request-done f body k d =
+  request-done f body k w d =
       let n = first-done (requestFaults e f body) d in
       let s = same body (setupData (e .settings) (f .command)) in
-      let u : not (is (f .command) K.InvokeFunc || s) ≡ false = rw k at (n .unequal) in
+      let u : not (isUsers (f .command) || s) ≡ false = rw k at (n .unequal) in
       record {
-        turn = n .turn;
+        turn = takes f (n .turn);
         above = not-false (isAbove (e .timestamps .accepted) (f .timestamp)) (n .repeat);
         width = not-false (isWidth (e .settings) (f .command) (length body)) (n .width);
-        contents = λ i. same-eq body (setupData (e .settings) (f .command)) (not-false s (rw i at u));
-        comes = rw (d, k);
+        has = λ i. rw i at (and-right (not (isNo (nextOf (f .command) (e .state))))
+            (not (is (f .command) K.ReadErrorInfo) || hasRecord e) (not-false (isTurn e (f .command)) (n .turn)));
+        contents = λ i. same-eq body (setupData (e .settings) (f .command)) (not-false s (rw (i, w) at u));
+        comes = rw (d, k, w);
+      }
+
+  pub report-done : (f : Fields) (body : List ℕ) → is (f .command) K.WriteErrorInfo ≡ true
+      → takeRequest e t f body .answer ≡ Done
+      → ReportTaken e t f body
+  report-done f body k d =
+      let n = first-done (requestFaults e f body) d in
+      let c : f .command ≡ K.WriteErrorInfo = is-command (f .command) K.WriteErrorInfo k in
+      record {
+        turn = takes f (n .turn);
+        reads = not-false (isRecord body) (rw k at (n .norecord));
+        above = not-false (isAbove (e .timestamps .accepted) (f .timestamp)) (n .repeat);
+        comes = rw (d, c, and-false (e .station .notready));
       }
 
   pub disconnect-done : (f : Fields) (body : List ℕ) → is (f .command) K.Disconnect ≡ true
@@ -212,7 +267,7 @@ module _ (e : Endpoint) (t : ℕ) where
   disconnect-done f body k d =
       let n = first-done (requestFaults e f body) d in
       record {
-        turn = n .turn;
+        turn = takes f (n .turn);
         above = not-false (isAbove (e .timestamps .accepted) (f .timestamp)) (n .repeat);
         comes = rw (d, k);
       }
@@ -234,6 +289,7 @@ module _ (e : Endpoint) (t : ℕ) where
         command = and-right (isPending (e .setup .pending)) (is (f .command) due)
             (and-right (f .ack) z (and-right x y turn));
         sound = u .0;
+        reads = λ i. not-false (isRecord body) (rw i at (n .norecord));
         contents = λ i. same-eq body (dueData e) (not-false s (rw i at (u .1)));
         comes = rw d;
       }

@@ -24,9 +24,10 @@ use Rattle.endpoint.specs.Answers.{firstOf, isDone, isDropped}
 use Rattle.endpoint.specs.Table.{isState}
 use Rattle.steps.specs.Frames.{sendWidth, setupData}
 use Rattle.steps.specs.Calls.{sendFaults}
-use Rattle.steps.specs.Deliveries.{isWidth, requestFaults}
+use Rattle.errors.specs.Reading.{isRecord}
+use Rattle.steps.specs.Deliveries.{lacksRecord, isWidth, requestFaults}
 use Rattle.steps.proofs.Keeps.{bcase}
-use Rattle.steps.proofs.Whole.{setup-length}
+use Rattle.steps.proofs.Whole.{record-bytes, setup-length}
 
 -- an answer that is not dropped is past each test that drops
 past : (b : Bool) (r : Reason) (x : Answer) → isDropped (cond b (Dropped r) x) ≡ false → (b ≡ false)
@@ -36,6 +37,7 @@ past false r x h = (refl, h)
 
 pub record NotDropped (f : Faults) : Type 0 where
   pub turn : f .turn ≡ false
+  pub norecord : f .norecord ≡ false
   pub width : f .width ≡ false
   pub repeat : f .repeat ≡ false
   pub ahead : f .ahead ≡ false
@@ -44,17 +46,19 @@ pub record NotDropped (f : Faults) : Type 0 where
 pub not-dropped : (f : Faults) → f .exhausted ≡ false → isDropped (firstOf f) ≡ false → NotDropped f
 not-dropped f x h =
     let t = past (f .turn) R.Turn _ h in
-    let w = past (f .width) R.Width _ (t .1) in
+    let n = past (f .norecord) R.Record _ (t .1) in
+    let w = past (f .width) R.Width _ (n .1) in
     let p = past (f .repeat) R.Repeat _ (rw x at (w .1)) in
     let a = past (f .ahead) R.Ahead _ (p .1) in
-    record { turn = t .0; width = w .0; repeat = p .0; ahead = a .0 }
+    record { turn = t .0; norecord = n .0; width = w .0; repeat = p .0; ahead = a .0 }
 
 -- where nothing can end the connection, an answer that is not dropped is not too soon either
 pub not-soon : (f : Faults) → f .exhausted ≡ false → f .late ≡ false → f .unequal ≡ false
     → isDropped (firstOf f) ≡ false → f .soon ≡ false
 not-soon f x l u h =
     let t = past (f .turn) R.Turn _ h in
-    let w = past (f .width) R.Width _ (t .1) in
+    let n = past (f .norecord) R.Record _ (t .1) in
+    let w = past (f .width) R.Width _ (n .1) in
     let p = past (f .repeat) R.Repeat _ (rw x at (w .1)) in
     let a = past (f .ahead) R.Ahead _ (p .1) in
     past (f .soon) R.TooSoon Done (rw (l, u) at (a .1)) .0
@@ -67,6 +71,7 @@ is-done (Ended r) h = absurd (true≢false (sym h))
 
 pub record NoFault (f : Faults) : Type 0 where
   pub turn : f .turn ≡ false
+  pub norecord : f .norecord ≡ false
   pub width : f .width ≡ false
   pub exhausted : f .exhausted ≡ false
   pub repeat : f .repeat ≡ false
@@ -86,7 +91,8 @@ ends false r x h = (refl, h)
 pub first-done : (f : Faults) → firstOf f ≡ Done → NoFault f
 first-done f h =
     let t = drops (f .turn) R.Turn _ h in
-    let w = drops (f .width) R.Width _ (t .1) in
+    let n = drops (f .norecord) R.Record _ (t .1) in
+    let w = drops (f .width) R.Width _ (n .1) in
     let x = ends (f .exhausted) R.Exhausted _ (w .1) in
     let p = drops (f .repeat) R.Repeat _ (x .1) in
     let a = drops (f .ahead) R.Ahead _ (p .1) in
@@ -95,6 +101,7 @@ first-done f h =
     let s = drops (f .soon) R.TooSoon _ (u .1) in
     record {
       turn = t .0;
+      norecord = n .0;
       width = w .0;
       exhausted = x .0;
       repeat = p .0;
@@ -114,21 +121,25 @@ sent-width e t n r h =
     let v : not (eqb n (sendWidth (e .settings))) ≡ false = rw r at w in
     eqb-true n (sendWidth (e .settings)) (not-false (eqb n (sendWidth (e .settings))) v)
 
--- the right length of a request's S-Data is one that S-Data can have
-width-length : (s : Settings) (k : Command) (n : ℕ) → isWidth s k n ≡ true → isBodyLength n ≡ true
-width-length s k n w =
+-- the right length of a request's S-Data is one that S-Data can have, and so is an error record's
+width-length : (s : Settings) (k : Command) (body : List ℕ) → lacksRecord k body ≡ false
+    → isWidth s k (length body) ≡ true → isBodyLength (length body) ≡ true
+width-length s k body r w =
+    let n = length body in
     bcase (is k K.InvokeFunc) (λ i. rw i at w)
-    (λ i.
-    let q : eqb n (length (setupData s k)) ≡ true = rw i at w in
-    rw (eqb-true n (length (setupData s k)) q) (setup-length s k))
+    (λ i. bcase (is k K.WriteErrorInfo)
+    (λ j. record-bytes body (not-false (isRecord body) (rw j at r)) .1)
+    (λ j.
+    let q : eqb n (length (setupData s k)) ≡ true = rw (i, j) at w in
+    rw (eqb-true n (length (setupData s k)) q) (setup-length s k)))
 
 -- a request that is not dropped has it
 pub request-width : (e : Endpoint) (f : Fields) (body : List ℕ) → isDropped (firstOf (requestFaults e f body)) ≡ false
     → isBodyLength (length body) ≡ true
 request-width e f body h =
     let w = isWidth (e .settings) (f .command) (length body) in
-    width-length (e .settings) (f .command) (length body)
-    (not-false w (not-dropped (requestFaults e f body) refl h .width))
+    let n = not-dropped (requestFaults e f body) refl h in
+    width-length (e .settings) (f .command) body (n .norecord) (not-false w (n .width))
 
 -- neither of two
 pub neither : (a b : Bool) → (a || b) ≡ false → (a ≡ false) × (b ≡ false)

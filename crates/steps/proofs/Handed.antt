@@ -1,6 +1,6 @@
 -- S-Data that a user hands over: its count of words, and the array that it is kept in.
 use mathlib.Core.Path.{_≡_, refl, sym, ap, _∙_}
-use mathlib.Core.Bool.{Bool, true, false, _&&_, cond}
+use mathlib.Core.Bool.{Bool, true, false, _&&_, not, cond}
 use mathlib.Core.List.{List, _++_, append-nil}
 use Prim.Native.Nat.{ℕ, _+_, _/_, _%_, _≤_, _<_}
 use native.Mathlib.Omega.{arith}
@@ -17,19 +17,23 @@ use Rattle.words.specs.Words.{wordBytes}
 use Rattle.words.specs.Output.{put, putWhole}
 use Rattle.endpoint.specs.declared.Answer.{Answer}
 use Rattle.endpoint.specs.declared.Answer.the-variants.{Done, Dropped, Ended}
-use Rattle.endpoint.specs.Endpoint.{Endpoint, wordsOf, coreOf}
+use Rattle.endpoint.specs.Endpoint.{Endpoint, Words, coreOf}
 use Rattle.endpoint.specs.Due.{isCommandDue, isHeldBack}
 use Rattle.endpoint.specs.Time.{endedOf}
 use Rattle.transitions.specs.ByFrame.{refreshedOf, endedBy, takenOf, heardOf}
+use Rattle.errors.specs.Reading.{isRecord}
 use Rattle.endpoint.specs.Answers.{firstOf, isDone, leftBy}
 use Rattle.steps.specs.Frames.{paddedOf}
 use Rattle.steps.specs.Calls.{handFaults, commandData}
+use Rattle.endpoint.specs.Answers.{recordFaults}
+use Rattle.steps.specs.declared.Body.{Body}
+use Rattle.steps.specs.Says.{DataSays}
 use Rattle.steps.specs.Deliveries.{replyFaults}
-use Rattle.steps.specs.Frames.{dueData}
-use Rattle.steps.specs.Values.{withWordBytes}
+use Rattle.steps.specs.Frames.{widthOf, handedOver, recordWidth, recordIn, dueData}
+use Rattle.steps.specs.Values.{withHanded}
 use Rattle.steps.proofs.Firsts.{is-done, first-done}
 use Rattle.steps.proofs.Keeps.{bcase}
-use Rattle.steps.proofs.Whole.{handed-length, due-length}
+use Rattle.steps.proofs.Whole.{record-bytes, padded-length, width-le, handed-length, record-width-le, record-length, due-length}
 
 -- S-Data has at most 100 bytes
 pub body-le : (n : ℕ) → isBodyLength n ≡ true → n ≤ 100
@@ -67,50 +71,74 @@ command-long word b h =
     ap (λ (l : List ℕ). wordBytes word ++ (take 96 b ++ l))
     (sym (drop-of-length-le (replicate {A = ℕ} 96 0) {i = length b} h))
 
--- ---- the bytes held do not change how long the words are
-pub due-width : (e : Endpoint) (w : List ℕ) → length (dueData e) ≡ length (dueData (withWordBytes w e))
-due-width e w =
-    bcase (isCommandDue e)
-    (λ h. rw (h, handed-length (e .words), handed-length (wordsOf (e .words .count) w)))
-    (λ h. rw h)
+-- where it is taken, its words are as many as 8 bits can count
+pub record-count : (turn : Bool) (b : List ℕ) → isDone (firstOf (recordFaults (not turn) (not (isRecord b)))) ≡ true
+    → length b / 4 % 256 ≡ length b / 4
+record-count turn b h =
+    let f = recordFaults (not turn) (not (isRecord b)) in
+    let l = record-bytes b (not-false (isRecord b) (first-done f (is-done (firstOf f) h) .norecord)) .0 in
+    omega (arith, l)
 
--- nor what a step leaves, but for the bytes
-module _ (e : Endpoint) (w : List ℕ) (t : ℕ) (f : Fields) where
+-- ---- in an array of 100 bytes
+module _ (w : Words) {d : Body} (a : d .bytes ≡ paddedOf (w .bytes)) where
+  pub handed-says : d .length ≡ widthOf (w .count) → DataSays (handedOver w) d
+  unfolding handedOver
+  handed-says k = record {
+    counted = k ∙ sym (handed-length w);
+    holds = rw (a, k);
+    fits = rw (a, k, padded-length (w .bytes)) (width-le (w .count));
+  }
+
+  pub record-says : d .length ≡ recordWidth (w .count) → DataSays (recordIn w) d
+  unfolding recordIn
+  record-says k = record {
+    counted = k ∙ sym (record-length w);
+    holds = rw (a, k);
+    fits = rw (a, k, padded-length (w .bytes)) (record-width-le (w .count));
+  }
+
+-- ---- the bytes held do not change what a step leaves, but for the bytes
+module _ (e : Endpoint) (w x : List ℕ) (t : ℕ) (f : Fields) where
   abbrev held : Endpoint
-  held = withWordBytes w e
+  held = withHanded w x e
 
-  taken-core : coreOf (takenOf e t f) ≡ coreOf (takenOf held t f)
-  taken-core =
+  taken-core : (more : Bool) → coreOf (takenOf e t f more) ≡ coreOf (takenOf held t f more)
+  taken-core more =
       bcase (is (f .command) K.Disconnect) (λ h. rw h)
-      (λ h. rw h (bcase (isHeldBack e (f .command)) (λ b. rw b) (λ b. rw b)))
+      (λ h. rw h (bcase (is (f .command) K.WriteErrorInfo) (λ i. rw i)
+      (λ i. rw i (bcase (isHeldBack e (f .command)) (λ b. rw b) (λ b. rw b)))))
 
-  pub left-core : (done : Bool) → coreOf (cond done (takenOf e t f) (endedBy e (f .timestamp)))
-      ≡ coreOf (cond done (takenOf held t f) (endedBy held (f .timestamp)))
-  left-core true = taken-core
-  left-core false = refl
+  pub left-core : (more done : Bool) → coreOf (cond done (takenOf e t f more) (endedBy e (f .timestamp)))
+      ≡ coreOf (cond done (takenOf held t f more) (endedBy held (f .timestamp)))
+  left-core more true = taken-core more
+  left-core more false = refl
 
   pub heard-core : coreOf (heardOf e t f) ≡ coreOf (heardOf held t f)
   heard-core =
       bcase (f .busy) (λ h. rw h) (λ h. rw h (bcase (isCommandDue e) (λ b. rw b) (λ b. rw b)))
 
-pub refused-core : (e : Endpoint) (w : List ℕ) (a : Answer) → coreOf (leftBy a e (endedOf e) e)
-    ≡ coreOf (leftBy a (withWordBytes w e) (endedOf (withWordBytes w e)) (withWordBytes w e))
-refused-core e w Done = refl
-refused-core e w (Dropped r) = refl
-refused-core e w (Ended r) = refl
+pub refused-core : (e : Endpoint) (w x : List ℕ) (a : Answer) → coreOf (leftBy a e (endedOf e) e)
+    ≡ coreOf (leftBy a (withHanded w x e) (endedOf (withHanded w x e)) (withHanded w x e))
+refused-core e w x Done = refl
+refused-core e w x (Dropped r) = refl
+refused-core e w x (Ended r) = refl
 
-pub refresh-core : (e : Endpoint) (w : List ℕ) (t stamp : ℕ) (body : List ℕ) (a : Answer)
+pub refresh-core : (e : Endpoint) (w x : List ℕ) (t stamp : ℕ) (body : List ℕ) (a : Answer)
     → coreOf (leftBy a e (endedOf e) (refreshedOf e t stamp (paddedOf body)))
-    ≡ coreOf (leftBy a (withWordBytes w e) (endedOf (withWordBytes w e))
-    (refreshedOf (withWordBytes w e) t stamp (paddedOf body)))
-refresh-core e w t stamp body Done = refl
-refresh-core e w t stamp body (Dropped r) = refl
-refresh-core e w t stamp body (Ended r) = refl
+    ≡ coreOf (leftBy a (withHanded w x e) (endedOf (withHanded w x e))
+    (refreshedOf (withHanded w x e) t stamp (paddedOf body)))
+refresh-core e w x t stamp body Done = refl
+refresh-core e w x t stamp body (Dropped r) = refl
+refresh-core e w x t stamp body (Ended r) = refl
 
 -- a reply that is done has no more than 100 bytes
 pub reply-le : (e : Endpoint) (f : Fields) (body : List ℕ) → firstOf (replyFaults e f body) ≡ Done → length body ≤ 100
 reply-le e f body h =
     let n = length (dueData e) in
-    let q : length body ≡ n =
-    eqb-true (length body) n (not-false (eqb (length body) n) (first-done (replyFaults e f body) h .width)) in
-    rw q (body-le n (due-length e))
+    let d = first-done (replyFaults e f body) h in
+    bcase (is (f .command) K.ReadErrorInfo)
+    (λ i.
+    let l = record-bytes body (not-false (isRecord body) (rw i at (d .norecord))) .0 in omega (arith, l))
+    (λ i.
+    let q : length body ≡ n = eqb-true (length body) n (not-false (eqb (length body) n) (rw i at (d .width))) in
+    rw q (body-le n (due-length e)))

@@ -1,5 +1,5 @@
--- A send, a stop and a deliver keep the settings and the words handed over; a stop and a deliver the count of requests.
--- The other acts: Quiet, and WordsKept.
+-- A send, a stop and a deliver keep the settings and what was handed over; a stop and a deliver the count of requests.
+-- The other acts: Quiet, and HandedKept.
 use mathlib.Core.Path.{_≡_, refl, ap, _∙_}
 use mathlib.Core.Bool.{Bool, true, false, cond, Bool·beq}
 use mathlib.Core.List.{List}
@@ -17,7 +17,8 @@ use Rattle.endpoint.specs.Answers.{firstOf, isDone, isDropped, leftBy}
 use Rattle.endpoint.specs.Table.{isState}
 use Rattle.endpoint.specs.Time.{endedOf}
 use Rattle.endpoint.specs.Due.{isCommandDue, isHeldBack}
-use Rattle.transitions.specs.ByFrame.{deferredOf, answeredOf, takenOf, endedBy, advancedOf, refreshedOf}
+use Rattle.errors.specs.Reading.{moreFollows}
+use Rattle.transitions.specs.ByFrame.{deferredOf, answeredOf, reportedOf, takenOf, endedBy, advancedOf, refreshedOf}
 use Rattle.transitions.specs.ByFrame.{confirmedOf, dueAgainOf, performedOf, heardOf}
 use Rattle.steps.specs.Frames.{paddedOf}
 use Rattle.steps.specs.Calls.{Outcome, refused, sendFaults, sendOf, stopFaults, stopOf}
@@ -30,18 +31,21 @@ pub bcase : {A : Type 0} (b : Bool) → (b ≡ true → A) → (b ≡ false → 
 bcase true p q = p refl
 bcase false p q = q refl
 
--- the settings and the words; and the count of requests
-abbrev pub lasting : Endpoint → Settings × Words
-lasting e = (e .settings, e .words)
+-- the settings, the words and the error record; and the count of requests
+abbrev pub Lasting : Type 0
+Lasting = Settings × Words × Words
+
+abbrev pub lasting : Endpoint → Lasting
+lasting e = (e .settings, e .words, e .errorinfo)
 
 abbrev pub Kept : Type 0
-Kept = Settings × Words × ℕ
+Kept = Settings × Words × Words × ℕ
 
 abbrev pub kept : Endpoint → Kept
-kept e = (e .settings, e .words, e .setup .requests)
+kept e = (e .settings, e .words, e .errorinfo, e .setup .requests)
 
 lasts : (e x : Endpoint) → kept x ≡ kept e → lasting x ≡ lasting e
-lasts e x k = ap (λ (s : Kept). let l : Settings × Words = (s .0, s .1) in l) k
+lasts e x k = ap (λ (s : Kept). let l : Lasting = (s .0, s .1, s .2) in l) k
 
 left-keeps : (s : Kept) (a : Answer) (x y z : Endpoint) → kept x ≡ s → kept y ≡ s → kept z ≡ s
     → kept (leftBy a x y z) ≡ s
@@ -69,13 +73,16 @@ module _ (e : Endpoint) (t : ℕ) where
   pub deliver-keeps : (f : Fields) (body : List ℕ) → kept (deliverOf e t f body .endpoint) ≡ kept e
   deliver-keeps f body =
       let s = kept e in
+      let more = moreFollows body in
       let p : kept (takeRefresh e t (f .timestamp) body .endpoint) ≡ s =
       left-keeps s (firstOf (refreshFaults e t (f .timestamp) (length body))) e (endedOf e)
       (refreshedOf e t (f .timestamp) (paddedOf body)) refl refl refl in
       let q : kept (takeRequest e t f body .endpoint) ≡ s =
-      left-keeps s (firstOf (requestFaults e f body)) e (endedBy e (f .timestamp)) (takenOf e t f) refl refl
-      (either-keeps s (is (f .command) K.Disconnect) (endedBy e (f .timestamp)) (answeredOf e t f) refl
-      (either-keeps s (isHeldBack e (f .command)) (deferredOf e t f) (advancedOf e t f) refl refl)) in
+      left-keeps s (firstOf (requestFaults e f body)) e (endedBy e (f .timestamp)) (takenOf e t f more) refl refl
+      (either-keeps s (is (f .command) K.Disconnect) (endedBy e (f .timestamp))
+      (cond (is (f .command) K.WriteErrorInfo) (reportedOf e (f .timestamp) more) (answeredOf e t f)) refl
+      (either-keeps s (is (f .command) K.WriteErrorInfo) (reportedOf e (f .timestamp) more) (answeredOf e t f) refl
+      (either-keeps s (isHeldBack e (f .command)) (deferredOf e t f) (advancedOf e t f) refl refl))) in
       let r : kept (takeReply e t f body .endpoint) ≡ s =
       left-keeps s (firstOf (replyFaults e f body)) e (endedOf e) (heardOf e t f) refl refl
       (either-keeps s (f .busy) (dueAgainOf e t) (cond (isCommandDue e) (performedOf e t) (confirmedOf e t)) refl

@@ -1,6 +1,6 @@
 -- Laws that serve several functions, and the laws of the calls.
 pub mod Copies
-pub mod Data
+pub mod Bodies
 pub mod Dispatch
 pub mod Firsts
 pub mod Handed
@@ -15,4 +15,4 @@ pub mod Dones
 pub mod Counts
 pub mod CallLaws
 pub mod Values
-pub mod WordsKept
+pub mod HandedKept

@@ -4,17 +4,19 @@ use mathlib.Core.Bool.{Bool, true, false, _&&_, not, cond, true≢false}
 use Prim.Native.Nat.{ℕ}
 use native.Mathlib.Omega.{arith}
 use lib.ListN.{length}
-use Rattle.endpoint.specs.declared.State.the-variants.{Close, Terminate}
+use Rattle.endpoint.specs.declared.State.the-variants.{Close}
 use Rattle.endpoint.specs.Endpoint.{Endpoint}
 use Rattle.endpoint.specs.declared.Reason.{Reason}
 use Rattle.endpoint.specs.declared.Answer.{Answer}
 use Rattle.endpoint.specs.declared.Answer.the-variants.{Done, Dropped}
-use Rattle.endpoint.specs.Answers.{firstOf, isDone}
-use Rattle.endpoint.specs.Table.{isState}
-use Rattle.endpoint.specs.Due.{mayQueue}
+use Rattle.endpoint.specs.Answers.{recordFaults, firstOf, isDone}
+use Rattle.endpoint.specs.Table.{isState, isTerminated}
+use Rattle.endpoint.specs.Due.{mayQueue, mayQueueRead}
+use Rattle.errors.specs.Reading.{isRecord}
 use Rattle.steps.specs.Frames.{nothing}
 use Rattle.steps.specs.Calls.{Outcome, outcome, dropped, handFaults, commandData}
-use Rattle.steps.specs.Steps.{Act, start, stop, restart, setNotReady, setResult, clearResult, invoke, begins, actOf}
+use Rattle.steps.specs.Steps.{Act, start, stop, restart, setNotReady, setResult, clearResult, setRecord}
+use Rattle.steps.specs.Steps.{clearRecord, invoke, readError, writeError, begins, actOf}
 
 pub not-done : (r : Reason) → Dropped r ≡ Done → ⊥
 not-done r h = let z : _≡_ {A = ℕ} 0 1 = cc in omega arith
@@ -54,7 +56,7 @@ pub by-act : (e : Endpoint) (t : ℕ) (P : Act → Type 0) → P stop
 by-act e t P p q start =
     q start (quiet true (not (e .settings .slave) && isState (e .state) Close) _ e _ (λ h. refl) refl refl)
 by-act e t P p q stop = p
-by-act e t P p q restart = q restart (quiet false (isState (e .state) Terminate) _ e _ (λ h. refl) refl refl)
+by-act e t P p q restart = q restart (quiet false (isTerminated (e .state)) _ e _ (λ h. refl) refl refl)
 by-act e t P p q (setNotReady b) = q (setNotReady b) (quiet false (e .settings .slave) _ e _ (λ h. refl) refl refl)
 by-act e t P p q (setResult body) =
     q (setResult body)
@@ -63,3 +65,12 @@ by-act e t P p q clearResult = q clearResult (quiet false (e .settings .slave) _
 by-act e t P p q (invoke word bytes) =
     q (invoke word bytes)
     (quiet false (isDone (firstOf (handFaults (mayQueue e) (length (commandData word bytes))))) _ e _ (λ h. h) refl refl)
+by-act e t P p q (setRecord body) =
+    q (setRecord body)
+    (quiet false (isDone (firstOf (recordFaults (not (e .settings .slave)) (not (isRecord body))))) _ e _ (λ h. h) refl
+    refl)
+by-act e t P p q clearRecord = q clearRecord (quiet false (e .settings .slave) _ e _ (λ h. refl) refl refl)
+by-act e t P p q readError = q readError (quiet false (mayQueueRead e) _ e _ (λ h. refl) refl refl)
+by-act e t P p q (writeError body) =
+    q (writeError body)
+    (quiet false (isDone (firstOf (recordFaults (not (mayQueue e)) (not (isRecord body))))) _ e _ (λ h. h) refl refl)

@@ -7,27 +7,31 @@ use lib.ListN.{length}
 use Rattle.frame.specs.declared.Command.the-variants as K
 use Rattle.frame.specs.declared.Fields.{Fields}
 use Rattle.frame.specs.Control.{is}
-use Rattle.endpoint.specs.declared.State.the-variants.{Close, Refresh, Terminate}
+use Rattle.endpoint.specs.declared.State.the-variants.{Close, Refresh}
 use Rattle.endpoint.specs.Endpoint.{Endpoint, wordsOf}
 use Rattle.endpoint.specs.declared.Reason.{Reason}
 use Rattle.endpoint.specs.declared.Reason.the-variants as R
 use Rattle.endpoint.specs.declared.Answer.{Answer}
 use Rattle.endpoint.specs.declared.Answer.the-variants.{Done, Dropped, Ended}
-use Rattle.endpoint.specs.Answers.{firstOf, isDone, isDropped, leftBy}
-use Rattle.endpoint.specs.Table.{isState}
-use Rattle.endpoint.specs.Due.{isCommandDue, isHeldBack, mayQueue}
+use Rattle.endpoint.specs.Answers.{recordFaults, firstOf, isDone, isDropped, leftBy}
+use Rattle.endpoint.specs.Table.{isState, isTerminated}
+use Rattle.endpoint.specs.Due.{isCommandDue, isHeldBack, mayQueue, mayQueueRead}
+use Rattle.errors.specs.Reading.{isRecord, moreFollows}
 use Rattle.endpoint.specs.Time.{noValue, Tidy, endedOf, afterTick, isExpired}
-use Rattle.endpoint.specs.Updates.{holding, withWords, withNotReady}
-use Rattle.transitions.specs.ByCall.{startedOf, restartedOf, requestedOf, refreshSentOf, stoppedOf, queuedOf}
-use Rattle.transitions.specs.ByFrame.{refreshedOf, deferredOf, advancedOf, takenOf, endedBy, confirmedOf, dueAgainOf}
+use Rattle.endpoint.specs.Updates.{holding, withWords, withErrorInfo, withNotReady}
+use Rattle.transitions.specs.ByCall.{startedOf, restartedOf, requestedOf, refreshSentOf, stoppedOf, invokedOf}
+use Rattle.transitions.specs.ByCall.{readQueuedOf, writeQueuedOf}
+use Rattle.transitions.specs.ByFrame.{refreshedOf, deferredOf, advancedOf, reportedOf, takenOf, endedBy, confirmedOf}
+use Rattle.transitions.specs.ByFrame.{dueAgainOf}
 use Rattle.transitions.specs.ByFrame.{performedOf, heardOf}
 use Rattle.steps.specs.Frames.{Written, nothing, frame, dueData, requestFields, refreshFields}
 use Rattle.steps.specs.Frames.{paddedOf}
 use Rattle.steps.specs.Calls.{Outcome, outcome, handFaults, commandData, sendFaults, sendOf, stopFaults}
-use Rattle.steps.specs.Calls.{disconnectOf}
+use Rattle.steps.specs.Calls.{disconnectOf, keptRecord}
 use Rattle.steps.specs.Deliveries.{refreshFaults, requestFaults, replyFaults, takeRefresh, takeRequest}
 use Rattle.steps.specs.Deliveries.{takeReply, deliverOf}
-use Rattle.steps.specs.Steps.{Act, start, stop, restart, setNotReady, setResult, clearResult, invoke, actOf}
+use Rattle.steps.specs.Steps.{Act, start, stop, restart, setNotReady, setResult, clearResult, setRecord}
+use Rattle.steps.specs.Steps.{clearRecord, invoke, readError, writeError, actOf}
 use Rattle.steps.specs.Steps.{Call, act, send, deliver, show, stepOf}
 use Rattle.steps.specs.Values.{withBytes, isShow, accepts, bodyIn, bytesAfter, ValueLeft, ValueLaws}
 use Rattle.steps.proofs.Dispatch.{cond-false}
@@ -93,7 +97,7 @@ module _ (e : Endpoint) (b : List ℕ) (h : Tidy (withBytes b e)) where
         let a = firstOf (stopFaults e t) in
         either (isDropped a) (kept a e nothing refl refl) (wiped Done (stoppedOf e t) (disconnectOf e t))
     act-left restart =
-        either (isState (e .state) Terminate) (wiped Done (restartedOf e) nothing)
+        either (isTerminated (e .state)) (wiped Done (restartedOf e) nothing)
         (kept (Dropped R.Turn) e nothing refl refl)
     act-left (setNotReady r) =
         either (e .settings .slave) (kept Done (withNotReady r e) nothing refl refl)
@@ -108,8 +112,20 @@ module _ (e : Endpoint) (b : List ℕ) (h : Tidy (withBytes b e)) where
     act-left (invoke word bytes) =
         let handed = commandData word bytes in
         let a = firstOf (handFaults (mayQueue e) (length handed)) in
-        either (isDone a) (kept Done (queuedOf e (wordsOf (length handed / 4) (paddedOf handed))) nothing refl refl)
+        either (isDone a) (kept Done (invokedOf e (wordsOf (length handed / 4) (paddedOf handed))) nothing refl refl)
         (kept a e nothing refl refl)
+    act-left (setRecord body) =
+        let a = firstOf (recordFaults (not (e .settings .slave)) (not (isRecord body))) in
+        either (isDone a) (kept Done (withErrorInfo (keptRecord body) e) nothing refl refl) (kept a e nothing refl refl)
+    act-left clearRecord =
+        either (e .settings .slave) (kept Done (withErrorInfo (wordsOf 0 (e .errorinfo .bytes)) e) nothing refl refl)
+        (kept (Dropped R.Turn) e nothing refl refl)
+    act-left readError =
+        either (mayQueueRead e) (kept Done (readQueuedOf e) nothing refl refl)
+        (kept (Dropped R.Turn) e nothing refl refl)
+    act-left (writeError body) =
+        let a = firstOf (recordFaults (not (mayQueue e)) (not (isRecord body))) in
+        either (isDone a) (kept Done (writeQueuedOf e (keptRecord body)) nothing refl refl) (kept a e nothing refl refl)
 
     send-left : (value : List ℕ) → Left (send value) (sendOf e t value) (sendOf (withBytes b e) t value)
     send-left value =
@@ -127,13 +143,18 @@ module _ (e : Endpoint) (b : List ℕ) (h : Tidy (withBytes b e)) where
           by-answer (firstOf (refreshFaults e t (f .timestamp) (length body))) (endedOf e)
           (filled (refreshedOf e t (f .timestamp) (paddedOf body)) nothing y)
 
+      abbrev more : Bool
+      more = moreFollows body
+
       module _ (n : is (f .command) K.Refresh ≡ false) where
         taken-left : (w : Written)
-            → Left (deliver f body) (outcome Done (takenOf e t f) w) (outcome Done (takenOf (withBytes b e) t f) w)
+            → Left (deliver f body) (outcome Done (takenOf e t f more) w)
+            (outcome Done (takenOf (withBytes b e) t f more) w)
         taken-left w =
             leaves (is (f .command) K.Disconnect) (wiped Done (endedBy e (f .timestamp)) w)
+            (leaves (is (f .command) K.WriteErrorInfo) (wiped Done (reportedOf e (f .timestamp) more) w)
             (leaves (isHeldBack e (f .command)) (kept Done (deferredOf e t f) w n refl)
-            (wiped Done (advancedOf e t f) w))
+            (wiped Done (advancedOf e t f) w)))
 
         heard-left : (w : Written)
             → Left (deliver f body) (outcome Done (heardOf e t f) w) (outcome Done (heardOf (withBytes b e) t f) w)

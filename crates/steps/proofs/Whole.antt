@@ -18,16 +18,21 @@ use mathlib.Mathlib.Data.Bool.Basic.{and-elim-left as and-left, and-elim-right a
 use Rattle.frame.proofs.Lengths.{can-be-written}
 use Rattle.frame.proofs.Written.{written}
 use Rattle.words.specs.Output.{over}
+use Rattle.errors.specs.Reading.{isRecord, recordOf}
+use Rattle.errors.proofs.ReadBack.{round-trip}
 use Rattle.endpoint.specs.declared.Settings.{Settings}
 use Rattle.endpoint.specs.declared.State.{State}
 use Rattle.endpoint.specs.declared.State.the-variants.{Close, Starting, EstablishPending, Establish, ParamVerify}
 use Rattle.endpoint.specs.declared.State.the-variants.{FuncRunning, RefreshPending, Refresh, Terminate}
+use Rattle.endpoint.specs.declared.State.the-variants.{TerminateMore}
+use Rattle.endpoint.specs.declared.Queue.{Queue}
+use Rattle.endpoint.specs.declared.Queue.the-variants as Q
 use Rattle.endpoint.specs.Endpoint.{Endpoint, Words}
 use Rattle.endpoint.specs.Table.{requestOf}
-use Rattle.endpoint.specs.Due.{isCommandDue, requestDue}
+use Rattle.endpoint.specs.Due.{isCommandDue, queuedIn, requestDue}
 use Rattle.endpoint.specs.Time.{span, timeOf}
-use Rattle.steps.specs.Frames.{setupData, isCount, widthOf, paddedOf, handedOver, dueData, sendWidth, showWidth}
-use Rattle.steps.specs.Frames.{sentFields}
+use Rattle.steps.specs.Frames.{setupData, isCount, widthOf, paddedOf, handedOver, isRecordCount, recordWidth}
+use Rattle.steps.specs.Frames.{recordIn, dataOf, dueData, sendWidth, showWidth, sentFields}
 use Rattle.steps.specs.Frames.{ackFields, baselineOf, requestFields, refreshFields, disconnectFields, replyFields}
 use Rattle.steps.specs.Frames.{hasResult, isPerformed, isBusy, replyData}
 use Rattle.steps.proofs.Keeps.{bcase}
@@ -55,6 +60,8 @@ setup-length s K.Connect = refl
 setup-length s K.ConfirmNetwork = refl
 setup-length s K.VerifyStation = refl
 setup-length s K.InvokeFunc = refl
+setup-length s K.ReadErrorInfo = refl
+setup-length s K.WriteErrorInfo = refl
 setup-length s K.RefreshReady = refl
 setup-length s K.RefreshGo = refl
 setup-length s K.Refresh = refl
@@ -97,26 +104,59 @@ handed-length w =
     length-take-le (widthOf (w .count)) (paddedOf (w .bytes))
     (rw (padded-length (w .bytes)) (width-le (w .count)))
 
--- so many bytes of the array that holds them
-module _ (w : Words) {array : List ℕ} {n : ℕ} (a : array ≡ paddedOf (w .bytes)) (k : n ≡ widthOf (w .count)) where
-  pub within-array : n ≤ length array
-  within-array = rw (a, k, padded-length (w .bytes)) (width-le (w .count))
+-- the error record likewise
+pub record-width-length : (words : ℕ) → isBodyLength (recordWidth words) ≡ true
+record-width-length words = by-test (isRecordCount words) refl
+  where
+    by-test : (b : Bool) → isRecordCount words ≡ b → isBodyLength (4 * cond b words 4) ≡ true
+    by-test true h =
+        let l = leb-true 4 words (and-left (leb 4 words) (leb words 14) h) in
+        let m = leb-true words 14 (and-right (leb 4 words) (leb words 14) h) in
+        both (le-leb 4 (4 * words) (omega arith))
+        (both (le-leb (4 * words) 100 (omega arith)) (eq-eqb (4 * words % 4) 0 (omega arith)))
+    by-test false h = refl
 
-  pub front-handed : take n array ≡ handedOver w
-  unfolding handedOver
-  front-handed = rw (a, k)
+pub record-width-le : (words : ℕ) → recordWidth words ≤ 100
+record-width-le words =
+    leb-true (recordWidth words) 100
+    (and-left (leb (recordWidth words) 100) _ (and-right (leb 4 (recordWidth words)) _ (record-width-length words)))
+
+pub record-length : (w : Words) → length (recordIn w) ≡ recordWidth (w .count)
+unfolding recordIn
+record-length w =
+    length-take-le (recordWidth (w .count)) (paddedOf (w .bytes))
+    (rw (padded-length (w .bytes)) (record-width-le (w .count)))
+
+-- what is an error record has 16 to 56 bytes, a whole number of words
+pub record-bytes : (b : List ℕ) → isRecord b ≡ true → (length b ≤ 56) × (isBodyLength (length b) ≡ true)
+record-bytes b h =
+    let q = round-trip .long b h in
+    let n = recordOf b .count in
+    let l : length b ≡ 16 + 4 * n = q .0 in
+    let m : n ≤ 10 = q .1 in (
+      omega (arith, l, m),
+      both (le-leb 4 (length b) (omega (arith, l)))
+          (both (le-leb (length b) 100 (omega (arith, l, m))) (eq-eqb (length b % 4) 0 (omega (arith, l)))),
+    )
+
+-- what a request of a master carries, and a slave's reply
+data-length : (e : Endpoint) (k : Command) → isBodyLength (length (dataOf e k)) ≡ true
+data-length e k =
+    bcase (is k K.InvokeFunc) (λ h. rw (h, handed-length (e .words)) (value-length (e .words .count)))
+    (λ h. rw h (bcase (is k K.WriteErrorInfo)
+    (λ i. rw (i, record-length (e .errorinfo)) (record-width-length (e .errorinfo .count)))
+    (λ i. rw i (setup-length (e .settings) k))))
 
 pub due-length : (e : Endpoint) → isBodyLength (length (dueData e)) ≡ true
-due-length e =
-    bcase (isCommandDue e)
-    (λ h. rw (h, handed-length (e .words)) (value-length (e .words .count)))
-    (λ h. rw h (setup-length (e .settings) (requestOf (e .state))))
+due-length e = data-length e (requestDue e)
 
-pub reply-length : (e : Endpoint) (k : Command) (body : List ℕ) → isBodyLength (length body) ≡ true
-    → isBodyLength (length (replyData e k body)) ≡ true
-reply-length e k body l =
+pub reply-length : (e : Endpoint) (k : Command) (done : Bool) (body : List ℕ) → isBodyLength (length body) ≡ true
+    → isBodyLength (length (replyData e k done body)) ≡ true
+reply-length e k done body l =
     bcase (isPerformed e k (length body))
-    (λ h. rw (h, handed-length (e .words)) (value-length (e .words .count))) (λ h. rw h l)
+    (λ h. rw (h, handed-length (e .words)) (value-length (e .words .count)))
+    (λ h. rw h (bcase (is k K.ReadErrorInfo && done)
+    (λ i. rw (i, record-length (e .errorinfo)) (record-width-length (e .errorinfo .count))) (λ i. rw i l)))
 
 -- ---- the form of each frame
 request-form : (s : State) (connection timestamp t measured : ℕ)
@@ -131,6 +171,7 @@ request-form FuncRunning connection timestamp t measured = refl
 request-form RefreshPending connection timestamp t measured = rw (or-true (eqb ((t - measured) % 65536) 0))
 request-form Refresh connection timestamp t measured = refl
 request-form Terminate connection timestamp t measured = refl
+request-form TerminateMore connection timestamp t measured = refl
 
 -- OBL has 16 bits
 pub baseline-fits : (k : Command) (t measured : ℕ) → baselineOf k t measured < 65536
@@ -147,12 +188,20 @@ reply-form : (k : Command) (busy error : Bool) (connection timestamp : ℕ) → 
 unfolding hasForm
 reply-form k busy error connection timestamp r d b = rw (r, d, b, or-true (not error))
 
+queued-form : (q : Queue) (connection timestamp t measured : ℕ)
+    → hasForm (sentFields (queuedIn q) false connection timestamp (baselineOf (queuedIn q) t measured)) ≡ true
+unfolding hasForm
+queued-form Q.Empty connection timestamp t measured = refl
+queued-form Q.InvokeFunc connection timestamp t measured = refl
+queued-form Q.ReadErrorInfo connection timestamp t measured = refl
+queued-form Q.WriteErrorInfo connection timestamp t measured = refl
+queued-form Q.Closed connection timestamp t measured = refl
+
 -- the queued command in S-RefreshReady's place
 due-form : (e : Endpoint) (connection timestamp t measured : ℕ)
     → hasForm (sentFields (requestDue e) false connection timestamp (baselineOf (requestDue e) t measured)) ≡ true
-unfolding hasForm
 due-form e connection timestamp t measured =
-    bcase (isCommandDue e) (λ h. rw h)
+    bcase (isCommandDue e) (λ h. rw h (queued-form (e .setup .queue) connection timestamp t measured))
     (λ h. rw h (request-form (e .state) connection timestamp t measured))
 
 -- Busy in the replies that may have it: a done, n not ready, w waits for the station, i S-InvokeFunc, r has its result
@@ -191,13 +240,13 @@ module _ (e : Endpoint) (t : ℕ) where
   pub reply-writable : (f : Fields) (done error : Bool) (body : List ℕ) → is (f .command) K.Refresh ≡ false
       → is (f .command) K.Disconnect ≡ false → isBodyLength (length body) ≡ true
       → isWritable (replyFields e f (done && isBusy e (f .command) (length body)) error)
-      (length (replyData e (f .command) body)) ≡ true
+      (length (replyData e (f .command) done body)) ≡ true
   reply-writable f done error body r d l =
       let busy = done && isBusy e (f .command) (length body) in
-      writable (replyFields e f busy error) (length (replyData e (f .command) body))
+      writable (replyFields e f busy error) (length (replyData e (f .command) done body))
       (reply-form (f .command) busy error (e .settings .connection) (f .timestamp % span) r d
       (busy-fits done (e .station .notready) (waitsForStation (f .command)) (is (f .command) K.InvokeFunc)
-      (hasResult e (length body)))) (omega arith) (reply-length e (f .command) body l)
+      (hasResult e (length body)))) (omega arith) (reply-length e (f .command) done body l)
 
 pub send-width-length : (s : Settings) → isBodyLength (sendWidth s) ≡ true
 send-width-length s = value-length (cond (s .slave) (s .slavewords) (s .masterwords))

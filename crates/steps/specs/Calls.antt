@@ -1,4 +1,5 @@
--- What each user's call does: start, send, stop, restart, set not ready, set and clear result, invoke, show.
+-- What each user's call does: start, send, stop, restart, set not ready, set and clear result, set and clear record,
+-- invoke, read error, write error, show.
 use mathlib.Core.Bool.{Bool, true, false, _&&_, _||_, not, cond}
 use mathlib.Core.List.{List, _++_}
 use Prim.Native.Nat.{ℕ, _/_}
@@ -7,20 +8,22 @@ use lib.ListN.{length, take, replicate}
 use Rattle.frame.specs.declared.Command.the-variants as K
 use Rattle.frame.specs.Writing.{isBodyLength}
 use Rattle.words.specs.Words.{wordBytes}
-use Rattle.endpoint.specs.declared.State.the-variants.{Close, Refresh, Terminate}
-use Rattle.endpoint.specs.Endpoint.{Endpoint, wordsOf}
+use Rattle.errors.specs.Reading.{isRecord}
+use Rattle.endpoint.specs.declared.State.the-variants.{Close, Refresh}
+use Rattle.endpoint.specs.Endpoint.{Endpoint, Words, wordsOf}
 use Rattle.endpoint.specs.declared.Reason.the-variants as R
 use Rattle.endpoint.specs.declared.Answer.{Answer}
 use Rattle.endpoint.specs.declared.Answer.the-variants.{Done, Dropped}
 use Rattle.endpoint.specs.declared.Faults.{Faults}
-use Rattle.endpoint.specs.Answers.{callFaults, firstOf, isDone, isDropped, leftBy}
-use Rattle.endpoint.specs.Table.{isState}
-use Rattle.endpoint.specs.Due.{mayRequest, isExhausted, mayQueue}
+use Rattle.endpoint.specs.Answers.{callFaults, recordFaults, firstOf, isDone, isDropped, leftBy}
+use Rattle.endpoint.specs.Table.{isState, isTerminated}
+use Rattle.endpoint.specs.Due.{mayRequest, isExhausted, mayQueue, mayQueueRead}
 use Rattle.endpoint.specs.Time.{isAbove, endedOf, timeOf}
-use Rattle.endpoint.specs.Updates.{withWords, withNotReady}
-use Rattle.transitions.specs.ByCall.{startedOf, restartedOf, requestedOf, refreshSentOf, stoppedOf, queuedOf}
+use Rattle.endpoint.specs.Updates.{withWords, withErrorInfo, withNotReady}
+use Rattle.transitions.specs.ByCall.{startedOf, restartedOf, requestedOf, refreshSentOf, stoppedOf, invokedOf}
+use Rattle.transitions.specs.ByCall.{readQueuedOf, writeQueuedOf}
 use Rattle.steps.specs.Frames.{Written, nothing, frame, setupData, dueData, sendWidth, showWidth, requestFields}
-use Rattle.steps.specs.Frames.{refreshFields, disconnectFields, paddedOf}
+use Rattle.steps.specs.Frames.{refreshFields, disconnectFields, paddedOf, paddedRecord}
 
 -- what a call comes to: its answer, the endpoint it leaves, what it writes
 pub record Outcome : Type 0 where
@@ -47,7 +50,7 @@ startOf e t =
 
 -- ---- restart: from Terminate
 abbrev pub restartOf : Endpoint → Outcome
-restartOf e = cond (isState (e .state) Terminate) (outcome Done (restartedOf e) nothing) (dropped e (Dropped R.Turn))
+restartOf e = cond (isTerminated (e .state)) (outcome Done (restartedOf e) nothing) (dropped e (Dropped R.Turn))
 
 -- ---- not ready, set or cleared: a slave's, in any state
 abbrev pub setNotReadyOf : Endpoint → Bool → Outcome
@@ -74,18 +77,46 @@ clearResultOf e =
     cond (e .settings .slave) (outcome Done (withWords (wordsOf 0 (e .words .bytes)) e) nothing)
     (dropped e (Dropped R.Turn))
 
--- a command, queued by a master's user in setup: n bytes of S-Data, from the front of these
-abbrev pub queueWith : Endpoint → ℕ → List ℕ → Outcome
-queueWith e n bytes =
+-- S-InvokeFunc, queued by a master's user in setup: n bytes of S-Data, from the front of these
+abbrev pub invokeWith : Endpoint → ℕ → List ℕ → Outcome
+invokeWith e n bytes =
     let a = firstOf (handFaults (mayQueue e) n) in
-    cond (isDone a) (outcome Done (queuedOf e (wordsOf (n / 4) bytes)) nothing) (dropped e a)
+    cond (isDone a) (outcome Done (invokedOf e (wordsOf (n / 4) bytes)) nothing) (dropped e a)
 
--- S-InvokeFunc: the command word, and 0 to 24 further words
+-- the command word, and 0 to 24 further words
 abbrev pub commandData : ℕ → List ℕ → List ℕ
 commandData word bytes = wordBytes word ++ bytes
 
 abbrev pub invokeOf : Endpoint → ℕ → List ℕ → Outcome
-invokeOf e word bytes = queueWith e (length (commandData word bytes)) (paddedOf (commandData word bytes))
+invokeOf e word bytes = invokeWith e (length (commandData word bytes)) (paddedOf (commandData word bytes))
+
+-- ---- an error record that a user hands over, or 20
+abbrev pub keptRecord : List ℕ → Words
+keptRecord body = wordsOf (length body / 4) (paddedRecord body)
+
+-- of a call that has its turn or not; it leaves `next`
+abbrev pub recordWith : Bool → Endpoint → Endpoint → List ℕ → Outcome
+recordWith turn next e body =
+    let a = firstOf (recordFaults (not turn) (not (isRecord body))) in
+    cond (isDone a) (outcome Done next nothing) (dropped e a)
+
+-- the station's own, set by a slave's user in any state
+abbrev pub setRecordOf : Endpoint → List ℕ → Outcome
+setRecordOf e body = recordWith (e .settings .slave) (withErrorInfo (keptRecord body) e) e body
+
+-- cleared: it has no words; the bytes stay, and nobody looks at them
+abbrev pub clearRecordOf : Endpoint → Outcome
+clearRecordOf e =
+    cond (e .settings .slave) (outcome Done (withErrorInfo (wordsOf 0 (e .errorinfo .bytes)) e) nothing)
+    (dropped e (Dropped R.Turn))
+
+-- S-WriteErrorInfo, queued by a master's user in setup
+abbrev pub writeErrorOf : Endpoint → List ℕ → Outcome
+writeErrorOf e body = recordWith (mayQueue e) (writeQueuedOf e (keptRecord body)) e body
+
+-- S-ReadErrorInfo, queued by a master's user in setup, until S-InvokeFunc has gone
+abbrev pub readErrorOf : Endpoint → Outcome
+readErrorOf e = cond (mayQueueRead e) (outcome Done (readQueuedOf e) nothing) (dropped e (Dropped R.Turn))
 
 -- ---- send: a master's next request in setup if none is pending; S-Refresh in Refresh
 -- of a send with this timestamp
@@ -114,7 +145,7 @@ sendOf e t value =
 -- of a stop with this timestamp
 abbrev pub stopFaultsAt : Endpoint → ℕ → Faults
 stopFaultsAt e stamp =
-    callFaults (isState (e .state) Close || isState (e .state) Terminate) false false
+    callFaults (isState (e .state) Close || isTerminated (e .state)) false false
     (not (e .settings .slave) && not (isAbove (e .timestamps .sent) stamp))
 
 -- the same, with the endpoint's time

@@ -10,6 +10,7 @@ use Rattle.frame.specs.declared.Fields.{Fields}
 use Rattle.frame.specs.Control.{is}
 use Rattle.frame.specs.Writing.{isBodyLength}
 use Rattle.words.specs.Bytes.{same}
+use Rattle.errors.specs.Reading.{isRecord, moreFollows}
 use Rattle.endpoint.specs.declared.State.the-variants.{Refresh}
 use Rattle.endpoint.specs.declared.Settings.{Settings}
 use Rattle.endpoint.specs.Endpoint.{Endpoint}
@@ -23,7 +24,7 @@ use Rattle.endpoint.specs.Due.{requestDue, isPending, answersTo}
 use Rattle.endpoint.specs.Time.{ageOf, isAbove, isTooFarAhead, allowanceOf, isTooLate, endedOf}
 use Rattle.transitions.specs.ByFrame.{refreshedOf, endedBy, takenOf, heardOf}
 use Rattle.steps.specs.Frames.{Written, nothing, frame, setupData, dueData, showWidth, replyFields, isBusy}
-use Rattle.steps.specs.Frames.{replyData}
+use Rattle.steps.specs.Frames.{hasRecord, replyData}
 use Rattle.steps.specs.Frames as W
 use Rattle.steps.specs.Frames.{paddedOf}
 use Rattle.steps.specs.Calls.{Outcome, outcome, dropped}
@@ -42,17 +43,29 @@ takeRefresh e t stamp body =
     outcome a (leftBy a e (endedOf e) (refreshedOf e t stamp (paddedOf body))) nothing
 
 -- ---- a request at a slave
--- its S-Data has the right length: of S-InvokeFunc any that S-Data can have
-abbrev pub isWidth : Settings → Command → ℕ → Bool
-isWidth s k n = cond (is k K.InvokeFunc) (isBodyLength n) (eqb n (length (setupData s k)))
+-- the state takes it; S-ReadErrorInfo with an error record set only
+abbrev pub isTurn : Endpoint → Command → Bool
+isTurn e k = not (isNo (nextOf k (e .state))) && (not (is k K.ReadErrorInfo) || hasRecord e)
 
--- and the right contents: not looked at in S-Disconnect, and in S-InvokeFunc the user's own
+-- it is S-WriteErrorInfo, and its S-Data is no error record
+abbrev pub lacksRecord : Command → List ℕ → Bool
+lacksRecord k body = is k K.WriteErrorInfo && not (isRecord body)
+
+-- its S-Data has the right length: of S-InvokeFunc any that S-Data can have, of S-WriteErrorInfo any error record's
+abbrev pub isWidth : Settings → Command → ℕ → Bool
+isWidth s k n = cond (is k K.InvokeFunc) (isBodyLength n) (is k K.WriteErrorInfo || eqb n (length (setupData s k)))
+
+-- and the right contents: not looked at in S-Disconnect, and in S-InvokeFunc and S-WriteErrorInfo the user's own
+abbrev pub isUsers : Command → Bool
+isUsers k = is k K.InvokeFunc || is k K.WriteErrorInfo
+
 abbrev pub isExpected : Settings → Command → List ℕ → Bool
-isExpected s k body = is k K.Disconnect || (is k K.InvokeFunc || same body (setupData s k))
+isExpected s k body = is k K.Disconnect || (isUsers k || same body (setupData s k))
 
 abbrev pub requestFaults : Endpoint → Fields → List ℕ → Faults
 requestFaults e f body =
-    setupFaults (isNo (nextOf (f .command) (e .state)))
+    setupFaults (not (isTurn e (f .command)))
+    (lacksRecord (f .command) body)
     (not (isWidth (e .settings) (f .command) (length body)))
     (not (isAbove (e .timestamps .accepted) (f .timestamp)))
     (not (isExpected (e .settings) (f .command) body))
@@ -62,23 +75,29 @@ abbrev pub repliedOf : Endpoint → Fields → List ℕ → Answer → Written
 repliedOf e f body a =
     cond (isDropped a || is (f .command) K.Disconnect) nothing
     (frame (replyFields e f (isDone a && isBusy e (f .command) (length body)) (isEnded a))
-    (replyData e (f .command) body))
+    (replyData e (f .command) (isDone a) body))
 
 abbrev pub takeRequest : Endpoint → ℕ → Fields → List ℕ → Outcome
 takeRequest e t f body =
     let a = firstOf (requestFaults e f body) in
-    outcome a (leftBy a e (endedBy e (f .timestamp)) (takenOf e t f)) (repliedOf e f body a)
+    outcome a (leftBy a e (endedBy e (f .timestamp)) (takenOf e t f (moreFollows body))) (repliedOf e f body a)
 
 -- ---- a reply at a master: to its pending request
--- the result of a queued command, which is not compared with its request and goes to the output
+-- the result of a queued command or the station's error record, which is not compared with its request and goes to the
+-- output
 abbrev pub isResult : Fields → Bool
-isResult f = is (f .command) K.InvokeFunc && not (f .busy)
+isResult f = (is (f .command) K.InvokeFunc && not (f .busy)) || is (f .command) K.ReadErrorInfo
+
+-- the replies that have to be error records
+abbrev pub repliesRecord : Command → Bool
+repliesRecord k = is k K.ReadErrorInfo || is k K.WriteErrorInfo
 
 abbrev pub replyFaults : Endpoint → Fields → List ℕ → Faults
 replyFaults e f body =
     setupFaults
     (not (isSetup (e .state) && (f .ack && (isPending (e .setup .pending) && is (f .command) (requestDue e)))))
-    (not (eqb (length body) (length (dueData e))))
+    (repliesRecord (f .command) && not (isRecord body))
+    (not (is (f .command) K.ReadErrorInfo || eqb (length body) (length (dueData e))))
     (not (answersTo (e .setup .pending) (f .timestamp)))
     (f .error || not (isResult f || same body (dueData e)))
 

@@ -13,7 +13,7 @@ use Rattle.frame.specs.Control.{is}
 use Rattle.frame.specs.Writing.{frameBytes}
 use Rattle.endpoint.specs.declared.Settings.{Settings}
 use Rattle.endpoint.specs.Endpoint.{Endpoint, Words}
-use Rattle.endpoint.specs.Due.{isCommandDue, requestDue, isHeldBack}
+use Rattle.endpoint.specs.Due.{requestDue, isHeldBack}
 use Rattle.endpoint.specs.Time.{span, timeOf}
 
 -- what a call writes: a frame for the bus, or bytes for its user
@@ -33,12 +33,14 @@ wordsBytes [] = []
 wordsBytes (w ∷ ws) = wordBytes w ++ wordsBytes ws
 
 -- the words that a setup request carries, and that the slave compares; S-Disconnect's zero word is not looked at, and
--- those of S-InvokeFunc are its user's (dueData)
+-- those of S-InvokeFunc and S-WriteErrorInfo are its user's (dataOf)
 abbrev pub setupWords : Settings → Command → List ℕ
 setupWords s K.Connect = 1 ∷ []
 setupWords s K.ConfirmNetwork = s .interval ∷ s .roundtrip ∷ s .age ∷ (32 * s .masterwords + s .slavewords) ∷ []
 setupWords s K.VerifyStation = s .station ∷ []
 setupWords s K.InvokeFunc = 0 ∷ []
+setupWords s K.ReadErrorInfo = 0 ∷ []
+setupWords s K.WriteErrorInfo = 0 ∷ []
 setupWords s K.RefreshReady = 0 ∷ []
 setupWords s K.RefreshGo = 0 ∷ []
 setupWords s K.Refresh = 0 ∷ []
@@ -63,9 +65,30 @@ paddedOf body = take 100 body ++ drop (length body) (replicate 100 0)
 unfoldable pub handedOver : Words → List ℕ
 handedOver w = take (widthOf (w .count)) (paddedOf (w .bytes))
 
--- what the request due from a master carries: the queued command's words, or those of a setup request
+-- an error record has 4 to 14 words
+abbrev pub isRecordCount : ℕ → Bool
+isRecordCount words = leb 4 words && leb words 14
+
+abbrev pub recordWidth : ℕ → ℕ
+recordWidth words = 4 * cond (isRecordCount words) words 4
+
+-- the error record that its user has handed over, likewise
+unfoldable pub recordIn : Words → List ℕ
+recordIn w = take (recordWidth (w .count)) (paddedOf (w .bytes))
+
+-- what is kept of an error record: an array of 56 bytes, with zeros after it
+abbrev pub paddedRecord : List ℕ → List ℕ
+paddedRecord body = take 56 (paddedOf body)
+
+-- what a request of a master carries: its user's words, its user's error record, or those of a setup request
+abbrev pub dataOf : Endpoint → Command → List ℕ
+dataOf e k =
+    cond (is k K.InvokeFunc) (handedOver (e .words))
+    (cond (is k K.WriteErrorInfo) (recordIn (e .errorinfo)) (setupData (e .settings) k))
+
+-- what the request due carries
 abbrev pub dueData : Endpoint → List ℕ
-dueData e = cond (isCommandDue e) (handedOver (e .words)) (setupData (e .settings) (requestDue e))
+dueData e = dataOf e (requestDue e)
 
 -- bytes of the value that an endpoint sends, and of the one that it shows
 abbrev pub sendWidth : Settings → ℕ
@@ -138,9 +161,15 @@ isPerformed e k n = is k K.InvokeFunc && hasResult e n
 abbrev pub isBusy : Endpoint → Command → ℕ → Bool
 isBusy e k n = isHeldBack e k || (is k K.InvokeFunc && not (hasResult e n))
 
--- the S-Data of the reply: the result, or the request's own
-abbrev pub replyData : Endpoint → Command → List ℕ → List ℕ
-replyData e k body = cond (isPerformed e k (length body)) (handedOver (e .words)) body
+-- a station's error record is set
+abbrev pub hasRecord : Endpoint → Bool
+hasRecord e = isRecordCount (e .errorinfo .count)
+
+-- the S-Data of the reply: the result, the error record where the request is done, or the request's own
+abbrev pub replyData : Endpoint → Command → Bool → List ℕ → List ℕ
+replyData e k done body =
+    cond (isPerformed e k (length body)) (handedOver (e .words))
+    (cond (is k K.ReadErrorInfo && done) (recordIn (e .errorinfo)) body)
 
 -- a setup request: no reply, and neither S-Refresh nor S-Disconnect
 abbrev pub isRequest : Fields → Bool

@@ -9,26 +9,29 @@ use Rattle.frame.specs.declared.Command.the-variants as K
 use Rattle.frame.specs.declared.Fields.{Fields}
 use Rattle.frame.specs.Control.{is}
 use Rattle.frame.specs.RoundTrip.{Readable}
+use Rattle.errors.specs.Reading.{isRecord, moreFollows}
 use Rattle.endpoint.specs.declared.Settings.{Settings}
-use Rattle.endpoint.specs.declared.State.the-variants.{Close, Refresh, Terminate}
+use Rattle.endpoint.specs.declared.State.the-variants.{Close, Refresh}
 use Rattle.endpoint.specs.declared.Pending.the-variants.{Nothing, Asked}
 use Rattle.endpoint.specs.Endpoint.{Endpoint, wordsOf}
 use Rattle.endpoint.specs.declared.Reason.{Reason}
 use Rattle.endpoint.specs.declared.Answer.the-variants.{Done, Dropped}
-use Rattle.endpoint.specs.Table.{isState, isSetup, isNo, nextOf}
-use Rattle.endpoint.specs.Due.{requestDue, requestLimit, mayQueue}
+use Rattle.endpoint.specs.Table.{isState, isSetup, isTerminated, isNo, nextOf}
+use Rattle.endpoint.specs.Due.{requestDue, requestLimit, mayQueue, mayQueueRead}
 use Rattle.endpoint.specs.Answers.{isDone}
 use Rattle.endpoint.specs.Time.{isAbove, isTooFarAhead, isTooLate, allowanceOf, timeOf, ageOf}
-use Rattle.endpoint.specs.Updates.{withWords, withNotReady}
-use Rattle.transitions.specs.ByCall.{startedOf, restartedOf, requestedOf, refreshSentOf, stoppedOf, queuedOf}
-use Rattle.transitions.specs.ByFrame.{refreshedOf, answeredOf, endedBy, heardOf}
+use Rattle.endpoint.specs.Updates.{withWords, withErrorInfo, withNotReady}
+use Rattle.transitions.specs.ByCall.{startedOf, restartedOf, requestedOf, refreshSentOf, stoppedOf, invokedOf}
+use Rattle.transitions.specs.ByCall.{readQueuedOf, writeQueuedOf}
+use Rattle.transitions.specs.ByFrame.{refreshedOf, answeredOf, reportedOf, endedBy, heardOf}
 use Rattle.steps.specs.Frames.{Written, nothing, frame, setupData, dueData, sendWidth, showWidth, requestFields}
-use Rattle.steps.specs.Frames.{refreshFields, replyFields, isBusy, replyData, isRequest}
+use Rattle.steps.specs.Frames.{refreshFields, replyFields, isBusy, hasRecord, replyData, isRequest}
 use Rattle.steps.specs.Frames as W
 use Rattle.steps.specs.Calls.{outcome, dropped, disconnectOf, startOf, restartOf, setNotReadyOf, sendOf, stopOf}
 use Rattle.steps.specs.Frames.{paddedOf}
-use Rattle.steps.specs.Calls.{setResultOf, clearResultOf, commandData, invokeOf}
-use Rattle.steps.specs.Deliveries.{isWidth, isResult, takeRefresh, takeRequest, takeReply}
+use Rattle.steps.specs.Calls.{setResultOf, clearResultOf, commandData, invokeOf, keptRecord, setRecordOf}
+use Rattle.steps.specs.Calls.{clearRecordOf, readErrorOf, writeErrorOf}
+use Rattle.steps.specs.Deliveries.{isWidth, isResult, repliesRecord, takeRefresh, takeRequest, takeReply}
 use Rattle.steps.specs.Steps.{begins, Call, act, send, deliver, show, stepOf}
 
 -- a frame that is written reads back, and carries the endpoint's CID and its role's Application bit
@@ -64,7 +67,7 @@ pub record StartDone (e : Endpoint) (t : ℕ) : Type 0 where
   pub comes : startOf e t ≡ outcome Done (startedOf e t) nothing
 
 pub record RestartDone (e : Endpoint) : Type 0 where
-  pub terminated : isState (e .state) Terminate ≡ true
+  pub terminated : isTerminated (e .state) ≡ true
   pub comes : restartOf e ≡ outcome Done (restartedOf e) nothing
 
 pub record NotReadySet (e : Endpoint) (b : Bool) : Type 0 where
@@ -82,8 +85,24 @@ pub record ResultCleared (e : Endpoint) : Type 0 where
 pub record CommandQueued (e : Endpoint) (word : ℕ) (bytes : List ℕ) : Type 0 where
   pub may : mayQueue e ≡ true
   pub comes : invokeOf e word bytes
-      ≡ outcome Done (queuedOf e (wordsOf (length (commandData word bytes) / 4) (paddedOf (commandData word bytes))))
+      ≡ outcome Done (invokedOf e (wordsOf (length (commandData word bytes) / 4) (paddedOf (commandData word bytes))))
       nothing
+
+pub record RecordSet (e : Endpoint) (body : List ℕ) : Type 0 where
+  pub slave : e .settings .slave ≡ true
+  pub comes : setRecordOf e body ≡ outcome Done (withErrorInfo (keptRecord body) e) nothing
+
+pub record RecordCleared (e : Endpoint) : Type 0 where
+  pub slave : e .settings .slave ≡ true
+  pub comes : clearRecordOf e ≡ outcome Done (withErrorInfo (wordsOf 0 (e .errorinfo .bytes)) e) nothing
+
+pub record ReadQueued (e : Endpoint) : Type 0 where
+  pub may : mayQueueRead e ≡ true
+  pub comes : readErrorOf e ≡ outcome Done (readQueuedOf e) nothing
+
+pub record WriteQueued (e : Endpoint) (body : List ℕ) : Type 0 where
+  pub may : mayQueue e ≡ true
+  pub comes : writeErrorOf e body ≡ outcome Done (writeQueuedOf e (keptRecord body)) nothing
 
 pub record RefreshSent (e : Endpoint) (t : ℕ) (value : List ℕ) : Type 0 where
   pub refresh : isState (e .state) Refresh ≡ true
@@ -102,7 +121,7 @@ pub record RequestSent (e : Endpoint) (t : ℕ) (value : List ℕ) : Type 0 wher
 
 pub record StopDone (e : Endpoint) (t : ℕ) : Type 0 where
   pub begun : isState (e .state) Close ≡ false
-  pub running : isState (e .state) Terminate ≡ false
+  pub running : isTerminated (e .state) ≡ false
   pub above : e .settings .slave ≡ false → isAbove (e .timestamps .sent) (timeOf e t) ≡ true
   pub comes : stopOf e t ≡ outcome Done (stoppedOf e t) (disconnectOf e t)
 
@@ -118,10 +137,18 @@ pub record RequestTaken (e : Endpoint) (t : ℕ) (f : Fields) (body : List ℕ) 
   pub turn : isNo (nextOf (f .command) (e .state)) ≡ false
   pub above : isAbove (e .timestamps .accepted) (f .timestamp) ≡ true
   pub width : isWidth (e .settings) (f .command) (length body) ≡ true
+  pub has : is (f .command) K.ReadErrorInfo ≡ true → hasRecord e ≡ true
   pub contents : is (f .command) K.InvokeFunc ≡ false → body ≡ setupData (e .settings) (f .command)
   pub comes : takeRequest e t f body
       ≡ outcome Done (answeredOf e t f)
-      (frame (replyFields e f (isBusy e (f .command) (length body)) false) (replyData e (f .command) body))
+      (frame (replyFields e f (isBusy e (f .command) (length body)) false) (replyData e (f .command) true body))
+
+pub record ReportTaken (e : Endpoint) (t : ℕ) (f : Fields) (body : List ℕ) : Type 0 where
+  pub turn : isNo (nextOf (f .command) (e .state)) ≡ false
+  pub reads : isRecord body ≡ true
+  pub above : isAbove (e .timestamps .accepted) (f .timestamp) ≡ true
+  pub comes : takeRequest e t f body
+      ≡ outcome Done (reportedOf e (f .timestamp) (moreFollows body)) (frame (replyFields e f false false) body)
 
 pub record DisconnectTaken (e : Endpoint) (t : ℕ) (f : Fields) (body : List ℕ) : Type 0 where
   pub turn : isNo (nextOf (f .command) (e .state)) ≡ false
@@ -133,6 +160,7 @@ pub record ReplyTaken (e : Endpoint) (t : ℕ) (f : Fields) (body : List ℕ) : 
   pub pending : e .setup .pending ≡ Asked (f .timestamp)
   pub command : is (f .command) (requestDue e) ≡ true
   pub sound : f .error ≡ false
+  pub reads : repliesRecord (f .command) ≡ true → isRecord body ≡ true
   pub contents : isResult f ≡ false → body ≡ dueData e
   pub comes : takeReply e t f body ≡ outcome Done (heardOf e t f) (cond (isResult f) (W.value body) nothing)
 
@@ -158,13 +186,19 @@ pub record StepLaws : Type 0 where
   pub result-cleared : (e : Endpoint) → clearResultOf e .answer ≡ Done → ResultCleared e
   pub command-queued : (e : Endpoint) (word : ℕ) (bytes : List ℕ) → invokeOf e word bytes .answer ≡ Done
       → CommandQueued e word bytes
+  pub record-set : (e : Endpoint) (body : List ℕ) → setRecordOf e body .answer ≡ Done → RecordSet e body
+  pub record-cleared : (e : Endpoint) → clearRecordOf e .answer ≡ Done → RecordCleared e
+  pub read-queued : (e : Endpoint) → readErrorOf e .answer ≡ Done → ReadQueued e
+  pub write-queued : (e : Endpoint) (body : List ℕ) → writeErrorOf e body .answer ≡ Done → WriteQueued e body
   pub send-done : (e : Endpoint) (t : ℕ) (value : List ℕ) → sendOf e t value .answer ≡ Done
       → RefreshSent e t value ⊎ RequestSent e t value
   pub stop-done : (e : Endpoint) (t : ℕ) → stopOf e t .answer ≡ Done → StopDone e t
   pub refresh-done : (e : Endpoint) (t stamp : ℕ) (body : List ℕ) → takeRefresh e t stamp body .answer ≡ Done
       → RefreshTaken e t stamp body
   pub request-done : (e : Endpoint) (t : ℕ) (f : Fields) (body : List ℕ) → is (f .command) K.Disconnect ≡ false
-      → takeRequest e t f body .answer ≡ Done → RequestTaken e t f body
+      → is (f .command) K.WriteErrorInfo ≡ false → takeRequest e t f body .answer ≡ Done → RequestTaken e t f body
+  pub report-done : (e : Endpoint) (t : ℕ) (f : Fields) (body : List ℕ) → is (f .command) K.WriteErrorInfo ≡ true
+      → takeRequest e t f body .answer ≡ Done → ReportTaken e t f body
   pub disconnect-done : (e : Endpoint) (t : ℕ) (f : Fields) (body : List ℕ) → is (f .command) K.Disconnect ≡ true
       → takeRequest e t f body .answer ≡ Done → DisconnectTaken e t f body
   pub reply-done : (e : Endpoint) (t : ℕ) (f : Fields) (body : List ℕ) → takeReply e t f body .answer ≡ Done

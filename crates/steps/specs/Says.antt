@@ -13,7 +13,7 @@ use Rattle.endpoint.specs.declared.Answer.{Answer}
 use Rattle.endpoint.specs.declared.Answer.the-variants.{Dropped}
 use Rattle.steps.specs.declared.Stepped.{Stepped}
 use Rattle.steps.specs.declared.Shown.{Shown}
-use Rattle.steps.specs.declared.SetupData.{SetupData}
+use Rattle.steps.specs.declared.Body.{Body}
 use Rattle.steps.specs.Frames.{bytesOf}
 use Rattle.steps.specs.Calls.{Outcome, dropped, isFailSafe, shownOf}
 
@@ -21,11 +21,11 @@ use Rattle.steps.specs.Calls.{Outcome, dropped, isFailSafe, shownOf}
 abbrev pub withRoom : ℕ → Endpoint → Outcome → Outcome
 withRoom room e o = cond (ltb room 248) (dropped e (Dropped R.Buffer)) o
 
--- the data of a setup request: the first bytes of an array
-abbrev pub bytesIn : SetupData → List ℕ
+-- S-Data: the first bytes of an array
+abbrev pub bytesIn : Body → List ℕ
 bytesIn d = take (d .length) (d .bytes)
 
-pub record DataSays (carried : List ℕ) (d : SetupData) : Type 0 where
+pub record DataSays (carried : List ℕ) (d : Body) : Type 0 where
   pub counted : d .length ≡ length carried
   pub holds : bytesIn d ≡ carried
   pub fits : d .length ≤ length (d .bytes)

@@ -9,7 +9,7 @@ use Rattle.endpoint.specs.declared.Answer.the-variants.{Done, Ended}
 use Rattle.endpoint.specs.Time.{isExpired, endedOf}
 use Rattle.steps.specs.Frames as W
 use Rattle.steps.specs.Calls.{Outcome, outcome, startOf, sendOf, stopOf, restartOf, setNotReadyOf, setResultOf}
-use Rattle.steps.specs.Calls.{clearResultOf, invokeOf, shownOf}
+use Rattle.steps.specs.Calls.{clearResultOf, setRecordOf, clearRecordOf, invokeOf, readErrorOf, writeErrorOf, shownOf}
 use Rattle.steps.specs.Deliveries.{deliverOf}
 
 -- the calls that hand over no value and no frame, and show nothing
@@ -20,7 +20,11 @@ pub data Act : Type 0 where
   setNotReady : Bool → Act
   setResult : List ℕ → Act
   clearResult : Act
+  setRecord : List ℕ → Act
+  clearRecord : Act
   invoke : ℕ → List ℕ → Act
+  readError : Act
+  writeError : List ℕ → Act
 
 -- only a start begins the count of requests anew
 abbrev pub begins : Act → Bool
@@ -30,7 +34,11 @@ begins restart = false
 begins (setNotReady b) = false
 begins (setResult body) = false
 begins clearResult = false
+begins (setRecord body) = false
+begins clearRecord = false
 begins (invoke word bytes) = false
+begins readError = false
+begins (writeError body) = false
 
 pub data Call : Type 0 where
   act : Act → Call
@@ -45,7 +53,11 @@ actOf e t restart = restartOf e
 actOf e t (setNotReady b) = setNotReadyOf e b
 actOf e t (setResult body) = setResultOf e body
 actOf e t clearResult = clearResultOf e
+actOf e t (setRecord body) = setRecordOf e body
+actOf e t clearRecord = clearRecordOf e
 actOf e t (invoke word bytes) = invokeOf e word bytes
+actOf e t readError = readErrorOf e
+actOf e t (writeError body) = writeErrorOf e body
 
 -- what a call does to an endpoint whose timer has not expired; a show changes nothing
 abbrev pub stepOf : Endpoint → ℕ → Call → Outcome

@@ -8,15 +8,16 @@ ghost use lib.ListN.{length};
 ghost use Rattle.frame.specs.declared.Command.the-variants as K;
 ghost use Rattle.frame.specs.Control.{is};
 ghost use Rattle.endpoint.specs.Answers.{firstOf};
-ghost use Rattle.steps.specs.Deliveries.{refreshFaults, takeRefresh, isWidth, isExpected, requestFaults};
-ghost use Rattle.steps.specs.Deliveries.{takeRequest, isResult, replyFaults, takeReply, deliverOf};
+ghost use Rattle.steps.specs.Deliveries.{refreshFaults, takeRefresh, isTurn, lacksRecord, isWidth, isUsers};
+ghost use Rattle.steps.specs.Deliveries.{isExpected, requestFaults, takeRequest, isResult, repliesRecord};
+ghost use Rattle.steps.specs.Deliveries.{replyFaults, takeReply, deliverOf};
 ghost use Rattle.steps.specs.Says.{plainStep, withRoom, StepSays};
-ghost use Rattle.steps.specs.Values.{withWordBytes};
+ghost use Rattle.steps.specs.Values.{withHanded};
 use super::Stepped;
-use super::frames::due_length;
+use super::frames::due_data;
+use super::frames::has_record;
 use super::frames::is_busy;
 use super::frames::is_data;
-use super::frames::is_due;
 use super::frames::reply_fields;
 use super::frames::setup_data;
 use super::frames::show_width;
@@ -47,6 +48,8 @@ use endpoint::time::allowance;
 use endpoint::time::is_above;
 use endpoint::time::is_too_far_ahead;
 use endpoint::time::is_too_late;
+use errors::read::is_record;
+use errors::read::more_follows;
 use frame::Command;
 use frame::Fields;
 use frame::LONGEST_FRAME;
@@ -85,6 +88,28 @@ fn take_refresh(e: Core, clock: u64, stamp: u64, body: &[u8]) -> Stepped
     refused(answer, e)
 }
 
+// Whether the state takes a request: S-ReadErrorInfo with an error record set only.
+fn is_turn(e: Core, k: Command) -> bool
+    ensures { λ r. ⌜ r ≡ isTurn (bare e) k ⌝ }
+{
+    let state = e.state;
+    !is_no(next_state(k, state)) & (!is(k, Command::ReadErrorInfo) | has_record(e))
+}
+
+// Whether the data of S-WriteErrorInfo is no error record.
+fn lacks_record(k: Command, body: &[u8]) -> bool
+    ensures { λ r. ⌜ r ≡ lacksRecord k (now (body .entry)) ⌝ }
+{
+    is(k, Command::WriteErrorInfo) & !is_record(body)
+}
+
+// Whether a request's data is its user's own, compared with nothing.
+fn is_users(k: Command) -> bool
+    ensures { λ r. ⌜ r ≡ isUsers k ⌝ }
+{
+    is(k, Command::InvokeFunc) | is(k, Command::WriteErrorInfo)
+}
+
 // Whether a request's data has the right length.
 fn is_width(s: Settings, k: Command, n: usize) -> bool
     ensures { λ r. ⌜ r ≡ isWidth s k n ⌝ }
@@ -93,37 +118,37 @@ fn is_width(s: Settings, k: Command, n: usize) -> bool
         return is_body_length(n);
     }
     let data = setup_data(s, k);
-    n == data.length
+    is(k, Command::WriteErrorInfo) | (n == data.length)
 }
 
 // Whether a request's data is the right one.
 fn is_expected(s: Settings, k: Command, body: &[u8]) -> bool
     ensures { λ r. ⌜ r ≡ isExpected s k (now (body .entry)) ⌝ }
 {
-    is(k, Command::Disconnect) | (is(k, Command::InvokeFunc) | is_data(body, setup_data(s, k)))
+    is(k, Command::Disconnect) | (is_users(k) | is_data(body, setup_data(s, k)))
 }
 
 fn request_answer(e: Core, f: Fields, body: &[u8]) -> Answer
     ensures { λ r. ⌜ r ≡ firstOf (requestFaults (bare e) f (now (body .entry))) ⌝ }
 {
-    let state = e.state;
     let settings = e.settings;
     let timestamps = e.timestamps;
     let last = timestamps.accepted;
     let k = f.command;
-    let no = is_no(next_state(k, state));
+    let turn = is_turn(e, k);
+    let lacks = lacks_record(k, body);
     let above = is_above(last, f.timestamp);
     let fits = is_width(settings, k, body.len());
     let expected = is_expected(settings, k, body);
-    first_of(setup_faults(no, !fits, !above, !expected))
+    first_of(setup_faults(!turn, lacks, !fits, !above, !expected))
 }
 
-// What a request that is answered leaves: done, or ended.
-fn left(done: bool, e: Core, clock: u64, f: Fields) -> Core
-    ensures { λ r. ⌜ r ≡ coreOf (cond done (takenOf (bare e) clock f) (endedBy (bare e) (f .timestamp))) ⌝ }
+// What a request that is answered leaves: done, or ended. More: it has an error record, and more follow.
+fn left(done: bool, e: Core, clock: u64, f: Fields, more: bool) -> Core
+    ensures { λ r. ⌜ r ≡ coreOf (cond done (takenOf (bare e) clock f more) (endedBy (bare e) (f .timestamp))) ⌝ }
 {
     if done {
-        return taken(e, clock, f);
+        return taken(e, clock, f, more);
     }
     ended_by(e, f.timestamp)
 }
@@ -132,13 +157,15 @@ fn left(done: bool, e: Core, clock: u64, f: Fields) -> Core
 fn take_request(
     e: Core,
     words: &[u8],
+    errorinfo: &[u8],
     clock: u64,
     f: Fields,
     body: &[u8],
     out: &mut [u8],
 ) -> Stepped
     requires { ⌜ (248 ≤ length (now out)) × (is (f .command) K.Refresh ≡ false) ⌝ }
-    ensures { λ r. ⌜ StepSays (takeRequest (withWordBytes (now (words .entry)) (bare e)) clock f (now (body .entry)))
+    ensures { λ r. ⌜ StepSays
+        (takeRequest (withHanded (now (words .entry)) (now (errorinfo .entry)) (bare e)) clock f (now (body .entry)))
         (now (out .entry)) (now (out .exit)) r ⌝ }
 {
     let answer = request_answer(e, f, body);
@@ -147,13 +174,13 @@ fn take_request(
     }
     let k = f.command;
     let done = is_done(answer);
-    let next = left(done, e, clock, f);
+    let next = left(done, e, clock, f, more_follows(body));
     if is(k, Command::Disconnect) {
         return stepped(answer, next, 0);
     }
     let busy = done & is_busy(e, k, body.len());
     let reply = reply_fields(e, f, busy, is_ended(answer));
-    let count = write_reply(e, words, k, head_of(reply), body, out);
+    let count = write_reply(e, words, errorinfo, k, done, head_of(reply), body, out);
     stepped(answer, next, count)
 }
 
@@ -161,11 +188,19 @@ fn is_result(f: Fields) -> bool
     ensures { λ r. ⌜ r ≡ isResult f ⌝ }
 {
     let k = f.command;
-    is(k, Command::InvokeFunc) & !f.busy
+    (is(k, Command::InvokeFunc) & !f.busy) | is(k, Command::ReadErrorInfo)
 }
 
-fn reply_answer(e: Core, words: &[u8], f: Fields, body: &[u8]) -> Answer
-    ensures { λ r. ⌜ r ≡ firstOf (replyFaults (withWordBytes (now (words .entry)) (bare e)) f (now (body .entry))) ⌝ }
+// Whether a reply to a command has to be an error record.
+fn replies_record(k: Command) -> bool
+    ensures { λ r. ⌜ r ≡ repliesRecord k ⌝ }
+{
+    is(k, Command::ReadErrorInfo) | is(k, Command::WriteErrorInfo)
+}
+
+fn reply_answer(e: Core, words: &[u8], errorinfo: &[u8], f: Fields, body: &[u8]) -> Answer
+    ensures { λ r. ⌜ r ≡ firstOf
+        (replyFaults (withHanded (now (words .entry)) (now (errorinfo .entry)) (bare e)) f (now (body .entry))) ⌝ }
 {
     let state = e.state;
     let setup = e.setup;
@@ -175,24 +210,38 @@ fn reply_answer(e: Core, words: &[u8], f: Fields, body: &[u8]) -> Answer
     let asked = is_pending(pending);
     let matches = is(k, request_due(e));
     let answers = answers_to(pending, f.timestamp);
-    let n = due_length(e);
     let result = is_result(f);
-    let equal = is_due(e, words, body);
+    let read = is(k, Command::ReadErrorInfo);
+    let record = replies_record(k);
+    let lacks = record & !is_record(body);
+    let due = due_data(e, words, errorinfo);
+    let n = due.length;
+    let equal = is_data(body, due);
     first_of(setup_faults(
         !(in_setup & (f.ack & (asked & matches))),
-        body.len() != n,
+        lacks,
+        !(read | (body.len() == n)),
         !answers,
         f.error | !(result | equal),
     ))
 }
 
-// A reply at a master. A result goes to the output.
-fn take_reply(e: Core, words: &[u8], clock: u64, f: Fields, body: &[u8], out: &mut [u8]) -> Stepped
+// A reply at a master. A result, or a station's error record, goes to the output.
+fn take_reply(
+    e: Core,
+    words: &[u8],
+    errorinfo: &[u8],
+    clock: u64,
+    f: Fields,
+    body: &[u8],
+    out: &mut [u8],
+) -> Stepped
     requires { ⌜ 248 ≤ length (now out) ⌝ }
-    ensures { λ r. ⌜ StepSays (takeReply (withWordBytes (now (words .entry)) (bare e)) clock f (now (body .entry)))
+    ensures { λ r. ⌜ StepSays
+        (takeReply (withHanded (now (words .entry)) (now (errorinfo .entry)) (bare e)) clock f (now (body .entry)))
         (now (out .entry)) (now (out .exit)) r ⌝ }
 {
-    let answer = reply_answer(e, words, f, body);
+    let answer = reply_answer(e, words, errorinfo, f, body);
     if !is_done(answer) {
         return refused(answer, e);
     }
@@ -204,11 +253,19 @@ fn take_reply(e: Core, words: &[u8], clock: u64, f: Fields, body: &[u8], out: &m
     stepped(Answer::Done, next, 0)
 }
 
-// A frame of this connection, whose user's words are held in these bytes. A slave's request writes its reply, and a
-// master's the result of a queued command.
-pub fn deliver(e: Core, words: &[u8], clock: u64, f: Fields, body: &[u8], out: &mut [u8]) -> Stepped
+// A frame of this connection, whose user's words and error record are held in these bytes. A slave's request writes its
+// reply, and a master's reply the result of a queued command or the station's error record.
+pub fn deliver(
+    e: Core,
+    words: &[u8],
+    errorinfo: &[u8],
+    clock: u64,
+    f: Fields,
+    body: &[u8],
+    out: &mut [u8],
+) -> Stepped
     ensures { λ r. ⌜ StepSays (withRoom (length (now (out .entry))) (bare e)
-        (deliverOf (withWordBytes (now (words .entry)) (bare e)) clock f (now (body .entry))))
+        (deliverOf (withHanded (now (words .entry)) (now (errorinfo .entry)) (bare e)) clock f (now (body .entry))))
         (now (out .entry)) (now (out .exit)) r ⌝ }
 {
     if out.len() < LONGEST_FRAME {
@@ -225,7 +282,7 @@ pub fn deliver(e: Core, words: &[u8], clock: u64, f: Fields, body: &[u8], out: &
     // A copy for setup, so that on a value's way the core need not stand in memory.
     let setup = e;
     if setup.settings.slave {
-        return take_request(setup, words, clock, f, body, out);
+        return take_request(setup, words, errorinfo, clock, f, body, out);
     }
-    take_reply(setup, words, clock, f, body, out)
+    take_reply(setup, words, errorinfo, clock, f, body, out)
 }

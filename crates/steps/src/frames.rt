@@ -2,22 +2,22 @@
 ghost use mathlib.Core.Path.{_≡_};
 ghost use mathlib.Core.Bool.{false};
 ghost use Rattle.endpoint.specs.Due.{requestDue};
-ghost use Rattle.endpoint.specs.Endpoint.{bare};
+ghost use Rattle.endpoint.specs.Endpoint.{bare, wordsOf};
 ghost use Rattle.words.specs.Bytes.{same};
 ghost use mathlib.Core.List.{_++_};
 ghost use Prim.Native.Nat.{_≤_};
-ghost use lib.ListN.{length};
+ghost use lib.ListN.{length, replicate};
 ghost use Rattle.words.specs.Words.{wordBytes};
-ghost use Rattle.steps.specs.Frames.{setupData, dueData, isCount, widthOf, sendWidth, showWidth, sentFields};
-ghost use Rattle.steps.specs.Frames.{baselineOf, replyFields, isPerformed, isBusy, replyData};
+ghost use Rattle.steps.specs.Frames.{setupData, isCount, widthOf, handedOver, isRecordCount, recordWidth, recordIn};
+ghost use Rattle.steps.specs.Frames.{dueData, sendWidth, showWidth, sentFields, baselineOf, replyFields};
+ghost use Rattle.steps.specs.Frames.{isPerformed, isBusy, hasRecord, replyData};
 ghost use Rattle.steps.specs.Says.{bytesIn, DataSays};
-ghost use Rattle.steps.specs.Values.{withWordBytes};
+ghost use Rattle.steps.specs.Values.{withHanded};
 ghost use Rattle.frame.specs.Writing.{HeadSays};
-use super::SetupData;
+use super::Body;
 use super::queue::padded;
 use endpoint::Core;
 use endpoint::Settings;
-use endpoint::due::is_command_due;
 use endpoint::due::is_held_back;
 use endpoint::due::request_due;
 use endpoint::time::passed;
@@ -31,10 +31,10 @@ use frame::write::write_head;
 use words::put_word;
 use words::same;
 
-fn four_words(a: u32, b: u32, c: u32, d: u32) -> [u8; 16]
-    ensures { λ r. ⌜ r ≡ wordBytes a ++ (wordBytes b ++ (wordBytes c ++ wordBytes d)) ⌝ }
+fn four_words(a: u32, b: u32, c: u32, d: u32) -> [u8; 100]
+    ensures { λ r. ⌜ r ≡ wordBytes a ++ (wordBytes b ++ (wordBytes c ++ (wordBytes d ++ replicate 84 0))) ⌝ }
 {
-    let mut bytes = [0u8; 16];
+    let mut bytes = [0u8; 100];
     put_word(&mut bytes, 0, a);
     put_word(&mut bytes, 4, b);
     put_word(&mut bytes, 8, c);
@@ -42,22 +42,23 @@ fn four_words(a: u32, b: u32, c: u32, d: u32) -> [u8; 16]
     bytes
 }
 
-fn one_word(v: u32) -> SetupData
-    ensures { λ r. ⌜ (r .bytes ≡ wordBytes v ++ (wordBytes 0 ++ (wordBytes 0 ++ wordBytes 0))) × (r .length ≡ 4) ⌝ }
+fn one_word(v: u32) -> Body
+    ensures { λ r. ⌜ (r .bytes ≡ wordBytes v ++ (wordBytes 0 ++ (wordBytes 0 ++ (wordBytes 0 ++ replicate 84 0))))
+        × (r .length ≡ 4) ⌝ }
 {
-    SetupData {
+    Body {
         bytes: four_words(v, 0, 0, 0),
         length: 4,
     }
 }
 
 // The words that a setup request carries.
-pub(crate) fn setup_data(s: Settings, k: Command) -> SetupData
+pub(crate) fn setup_data(s: Settings, k: Command) -> Body
     ensures { λ r. ⌜ DataSays (setupData s k) r ⌝ }
 {
     match k {
         Command::Connect => one_word(1),
-        Command::ConfirmNetwork => SetupData {
+        Command::ConfirmNetwork => Body {
             bytes: four_words(
                 s.interval,
                 s.roundtrip,
@@ -68,6 +69,8 @@ pub(crate) fn setup_data(s: Settings, k: Command) -> SetupData
         },
         Command::VerifyStation => one_word(s.station),
         Command::InvokeFunc => one_word(0),
+        Command::ReadErrorInfo => one_word(0),
+        Command::WriteErrorInfo => one_word(0),
         Command::RefreshReady => one_word(0),
         Command::RefreshGo => one_word(0),
         Command::Refresh => one_word(0),
@@ -177,8 +180,8 @@ pub(crate) fn reply_fields(e: Core, f: Fields, busy: bool, error: bool) -> Field
     }
 }
 
-// Writes a frame with the data of a setup request.
-pub(crate) fn write_data(head: Head, carried: SetupData, out: &mut [u8]) -> usize
+// Writes a frame with this data.
+pub(crate) fn write_data(head: Head, carried: Body, out: &mut [u8]) -> usize
     requires { ⌜ carried .length ≤ length (carried .bytes) ⌝ }
     ensures { λ r. ⌜ HeadSays head (bytesIn carried) (now (out .entry)) (now (out .exit)) r ⌝ }
 {
@@ -187,8 +190,8 @@ pub(crate) fn write_data(head: Head, carried: SetupData, out: &mut [u8]) -> usiz
     write_head(head, &bytes[..n], out)
 }
 
-// Whether a body is the data of a setup request.
-pub(crate) fn is_data(body: &[u8], due: SetupData) -> bool
+// Whether a body is this data.
+pub(crate) fn is_data(body: &[u8], due: Body) -> bool
     requires { ⌜ due .length ≤ length (due .bytes) ⌝ }
     ensures { λ r. ⌜ r ≡ same (now (body .entry)) (bytesIn due) ⌝ }
 {
@@ -197,45 +200,59 @@ pub(crate) fn is_data(body: &[u8], due: SetupData) -> bool
     same(body, &bytes[..n])
 }
 
-// ---- the request due: a setup request, or the queued command, whose words are lent
+// ---- what its user handed over, whose bytes are lent
 
-// How many bytes it carries.
-pub(crate) fn due_length(e: Core) -> usize
-    ensures { λ r. ⌜ r ≡ length (dueData (bare e)) ⌝ }
+// Whether an error record has so many words.
+fn is_record_count(words: u8) -> bool
+    ensures { λ r. ⌜ r ≡ isRecordCount words ⌝ }
 {
-    if is_command_due(e) {
-        return width(e.words);
-    }
-    let settings = e.settings;
-    let data = setup_data(settings, request_due(e));
-    data.length
+    (4 <= words) & (words <= 14)
 }
 
-// Whether a body is what it carries.
-pub(crate) fn is_due(e: Core, words: &[u8], body: &[u8]) -> bool
-    ensures { λ r. ⌜ r ≡ same (now (body .entry)) (dueData (withWordBytes (now (words .entry)) (bare e))) ⌝ }
+// Bytes of an error record of so many words.
+fn record_width(words: u8) -> usize
+    ensures { λ r. ⌜ r ≡ recordWidth words ⌝ }
 {
-    if is_command_due(e) {
-        let array = padded(words);
-        let n = width(e.words);
-        return same(body, &array[..n]);
+    if is_record_count(words) {
+        4 * (words as usize)
+    } else {
+        16
     }
-    let settings = e.settings;
-    is_data(body, setup_data(settings, request_due(e)))
 }
 
-// Writes it.
-pub(crate) fn write_due(e: Core, words: &[u8], head: Head, out: &mut [u8]) -> usize
-    ensures { λ r. ⌜ HeadSays head (dueData (withWordBytes (now (words .entry)) (bare e)))
-        (now (out .entry)) (now (out .exit)) r ⌝ }
+// So many words.
+fn handed_over(count: u8, words: &[u8]) -> Body
+    ensures { λ r. ⌜ DataSays (handedOver (wordsOf count (now (words .entry)))) r ⌝ }
 {
-    if is_command_due(e) {
-        let array = padded(words);
-        let n = width(e.words);
-        return write_head(head, &array[..n], out);
+    Body {
+        bytes: padded(words),
+        length: width(count),
+    }
+}
+
+// An error record of so many words.
+fn record_in(count: u8, errorinfo: &[u8]) -> Body
+    ensures { λ r. ⌜ DataSays (recordIn (wordsOf count (now (errorinfo .entry)))) r ⌝ }
+{
+    Body {
+        bytes: padded(errorinfo),
+        length: record_width(count),
+    }
+}
+
+// What the request due carries: its user's words, its user's error record, or those of a setup request.
+pub(crate) fn due_data(e: Core, words: &[u8], errorinfo: &[u8]) -> Body
+    ensures { λ r. ⌜ DataSays (dueData (withHanded (now (words .entry)) (now (errorinfo .entry)) (bare e))) r ⌝ }
+{
+    let k = request_due(e);
+    if is(k, Command::InvokeFunc) {
+        return handed_over(e.words, words);
+    }
+    if is(k, Command::WriteErrorInfo) {
+        return record_in(e.errorinfo, errorinfo);
     }
     let settings = e.settings;
-    write_data(head, setup_data(settings, request_due(e)), out)
+    setup_data(settings, k)
 }
 
 // ---- a reply
@@ -253,22 +270,33 @@ pub(crate) fn is_busy(e: Core, k: Command, n: usize) -> bool
     is_held_back(e, k) | (is(k, Command::InvokeFunc) & !is_performed(e, k, n))
 }
 
-// Writes a reply to a request with this body: the result whose words are lent, or the body.
+// Whether the station's error record is set.
+pub(crate) fn has_record(e: Core) -> bool
+    ensures { λ r. ⌜ r ≡ hasRecord (bare e) ⌝ }
+{
+    is_record_count(e.errorinfo)
+}
+
+// Writes a reply to a request with this body: the result or the error record whose bytes are lent, or the body.
 pub(crate) fn write_reply(
     e: Core,
     words: &[u8],
+    errorinfo: &[u8],
     k: Command,
+    done: bool,
     head: Head,
     body: &[u8],
     out: &mut [u8],
 ) -> usize
-    ensures { λ r. ⌜ HeadSays head (replyData (withWordBytes (now (words .entry)) (bare e)) k (now (body .entry)))
+    ensures { λ r. ⌜ HeadSays head
+        (replyData (withHanded (now (words .entry)) (now (errorinfo .entry)) (bare e)) k done (now (body .entry)))
         (now (out .entry)) (now (out .exit)) r ⌝ }
 {
     if is_performed(e, k, body.len()) {
-        let array = padded(words);
-        let n = width(e.words);
-        return write_head(head, &array[..n], out);
+        return write_data(head, handed_over(e.words, words), out);
+    }
+    if is(k, Command::ReadErrorInfo) & done {
+        return write_data(head, record_in(e.errorinfo, errorinfo), out);
     }
     write_head(head, body, out)
 }

@@ -25,8 +25,8 @@ pub struct Shown {
     pub failsafe: bool,
 }
 
-// The data of a setup request: the first length bytes.
-pub struct SetupData {
-    pub bytes: [u8; 16],
+// S-Data: the first length bytes.
+pub struct Body {
+    pub bytes: [u8; 100],
     pub length: usize,
 }

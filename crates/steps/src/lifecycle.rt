@@ -18,6 +18,7 @@ use endpoint::answers::first_of;
 use endpoint::answers::is_dropped;
 use endpoint::answers::is_ended;
 use endpoint::table::is_state;
+use endpoint::table::is_terminated;
 use endpoint::time::ended;
 use endpoint::time::is_above;
 use endpoint::time::time_of;
@@ -64,7 +65,7 @@ pub fn restart(e: Core) -> Stepped
     ensures { λ r. ⌜ r ≡ plainStep (restartOf (bare e)) ⌝ }
 {
     let state = e.state;
-    if is_state(state, State::Terminate) {
+    if is_terminated(state) {
         return stepped(Answer::Done, restarted(e), 0);
     }
     stepped(Answer::Dropped(Reason::Turn), e, 0)
@@ -76,7 +77,7 @@ fn stop_answer(e: Core, stamp: u64) -> Answer
     let state = e.state;
     let timestamps = e.timestamps;
     let sent = timestamps.sent;
-    let turn = is_state(state, State::Close) | is_state(state, State::Terminate);
+    let turn = is_state(state, State::Close) | is_terminated(state);
     let soon = !e.settings.slave & !is_above(sent, stamp);
     first_of(call_faults(turn, false, false, soon))
 }

@@ -1,25 +1,33 @@
-// The commands that a master's user queues in setup, and the S-Data that a user hands over.
+// The commands that a master's user queues in setup, and the S-Data and error records that a user hands over.
 ghost use mathlib.Core.Path.{_≡_};
 ghost use mathlib.Core.List.{_++_};
 ghost use Prim.Native.Nat.{ℕ, _/_, _%_, _≤_};
 ghost use lib.ListN.{length, take, drop, replicate};
 ghost use Rattle.words.specs.Words.{wordBytes};
 ghost use Rattle.endpoint.specs.Endpoint.{noBytes, bare};
-ghost use Rattle.endpoint.specs.Answers.{firstOf};
-ghost use Rattle.steps.specs.Frames.{paddedOf};
-ghost use Rattle.steps.specs.Calls.{handFaults, queueWith, commandData};
+ghost use Rattle.endpoint.specs.Answers.{recordFaults, firstOf};
+ghost use Rattle.errors.specs.Reading.{isRecord};
+ghost use Rattle.steps.specs.Frames.{paddedOf, paddedRecord};
+ghost use Rattle.steps.specs.Calls.{handFaults, invokeWith, commandData, readErrorOf, writeErrorOf};
+ghost use mathlib.Core.Bool.{not};
 ghost use Rattle.steps.specs.Says.{plainStep};
 use super::Stepped;
 use super::lifecycle::stepped;
 use bytes::copy;
 use endpoint::Answer;
 use endpoint::Core;
+use endpoint::Reason;
 use endpoint::answers::call_faults;
 use endpoint::answers::first_of;
 use endpoint::answers::is_done;
+use endpoint::answers::record_faults;
 use endpoint::due::may_queue;
+use endpoint::due::may_queue_read;
+use errors::read::is_record;
 use frame::write::is_body_length;
-use transitions::by_call::queued;
+use transitions::by_call::invoked;
+use transitions::by_call::read_queued;
+use transitions::by_call::write_queued;
 use words::put_word;
 
 // The answer to a call that hands over n bytes of S-Data: 11 or 12.
@@ -36,13 +44,42 @@ pub(crate) fn word_count(n: usize) -> u8
     (n / 4 % 256) as u8
 }
 
-// A master's user queues a command of n bytes of S-Data, in setup. The bytes are kept by the caller.
-pub fn queue(e: Core, n: usize) -> Stepped
-    ensures { λ r. ⌜ r ≡ plainStep (queueWith (bare e) n noBytes) ⌝ }
+// A master's user queues S-InvokeFunc of n bytes of S-Data, in setup. The bytes are kept by the caller.
+pub fn invoke(e: Core, n: usize) -> Stepped
+    ensures { λ r. ⌜ r ≡ plainStep (invokeWith (bare e) n noBytes) ⌝ }
 {
     let answer = hand_answer(may_queue(e), n);
     if is_done(answer) {
-        return stepped(Answer::Done, queued(e, word_count(n)), 0);
+        return stepped(Answer::Done, invoked(e, word_count(n)), 0);
+    }
+    stepped(answer, e, 0)
+}
+
+// The answer to a call that hands over an error record: 11 or 20.
+pub(crate) fn record_answer(turn: bool, body: &[u8]) -> Answer
+    ensures { λ r. ⌜ r ≡ firstOf (recordFaults (not turn) (not (isRecord (now (body .entry))))) ⌝ }
+{
+    let good = is_record(body);
+    first_of(record_faults(!turn, !good))
+}
+
+// A master's user queues S-ReadErrorInfo, in setup.
+pub fn read_error(e: Core) -> Stepped
+    ensures { λ r. ⌜ r ≡ plainStep (readErrorOf (bare e)) ⌝ }
+{
+    if may_queue_read(e) {
+        return stepped(Answer::Done, read_queued(e), 0);
+    }
+    stepped(Answer::Dropped(Reason::Turn), e, 0)
+}
+
+// A master's user queues S-WriteErrorInfo, in setup. The bytes of the record are kept by the caller.
+pub fn write_error(e: Core, body: &[u8]) -> Stepped
+    ensures { λ r. ⌜ r ≡ plainStep (writeErrorOf (bare e) (now (body .entry))) ⌝ }
+{
+    let answer = record_answer(may_queue(e), body);
+    if is_done(answer) {
+        return stepped(Answer::Done, write_queued(e, word_count(body.len())), 0);
     }
     stepped(answer, e, 0)
 }
@@ -90,4 +127,14 @@ pub fn command_data(word: u32, bytes: &[u8]) -> [u8; 100]
         return joined(word, bytes, bytes.len());
     }
     joined(word, bytes, 96)
+}
+
+// An error record in an array, with zeros after it.
+pub fn padded_record(body: &[u8]) -> [u8; 56]
+    ensures { λ r. ⌜ r ≡ paddedRecord (now (body .entry)) ⌝ }
+{
+    let array = padded(body);
+    let mut bytes = [0u8; 56];
+    let k = copy(&array[..56], &mut bytes);
+    bytes
 }

@@ -5,12 +5,13 @@ ghost use lib.ListN.{length};
 ghost use Rattle.endpoint.specs.Answers.{firstOf};
 ghost use Rattle.steps.specs.Calls.{sendFaultsAt, sendOf};
 ghost use Rattle.steps.specs.Says.{withRoom, StepSays};
-ghost use Rattle.steps.specs.Values.{withWordBytes};
+ghost use Rattle.steps.specs.Values.{withHanded};
 use super::Stepped;
+use super::frames::due_data;
 use super::frames::request_fields;
 use super::frames::send_width;
 use super::frames::sent_fields;
-use super::frames::write_due;
+use super::frames::write_data;
 use super::lifecycle::refused;
 use super::lifecycle::stepped;
 use endpoint::Answer;
@@ -52,11 +53,18 @@ fn send_answer(e: Core, stamp: u64, width: usize) -> Answer
     ))
 }
 
-// The next request, whatever value is lent, or the queued command, whose words are held in these bytes; in Refresh the
-// value.
-pub fn send(e: Core, words: &[u8], clock: u64, value: &[u8], out: &mut [u8]) -> Stepped
+// The next request, whatever value is lent, or the queued command, whose words or error record are held in these bytes;
+// in Refresh the value.
+pub fn send(
+    e: Core,
+    words: &[u8],
+    errorinfo: &[u8],
+    clock: u64,
+    value: &[u8],
+    out: &mut [u8],
+) -> Stepped
     ensures { λ r. ⌜ StepSays (withRoom (length (now (out .entry))) (bare e)
-        (sendOf (withWordBytes (now (words .entry)) (bare e)) clock (now (value .entry))))
+        (sendOf (withHanded (now (words .entry)) (now (errorinfo .entry)) (bare e)) clock (now (value .entry))))
         (now (out .entry)) (now (out .exit)) r ⌝ }
 {
     if out.len() < LONGEST_FRAME {
@@ -79,6 +87,7 @@ pub fn send(e: Core, words: &[u8], clock: u64, value: &[u8], out: &mut [u8]) -> 
         let count = write_head(head_of(fields), value, out);
         return stepped(Answer::Done, with_sent(stamp, e), count);
     }
-    let count = write_due(e, words, head_of(request_fields(e, clock, stamp)), out);
+    let head = head_of(request_fields(e, clock, stamp));
+    let count = write_data(head, due_data(e, words, errorinfo), out);
     stepped(Answer::Done, requested(e, clock, stamp), count)
 }

@@ -1,16 +1,18 @@
-// What a station's user says of it: set_not_ready, set_result, clear_result.
+// What a station's user says of it: set_not_ready, set_result, clear_result, set_record, clear_record.
 ghost use mathlib.Core.Path.{_≡_};
 ghost use Rattle.endpoint.specs.Endpoint.{noBytes, bare};
-ghost use Rattle.steps.specs.Calls.{setNotReadyOf, resultWith, clearResultOf};
+ghost use Rattle.steps.specs.Calls.{setNotReadyOf, resultWith, clearResultOf, setRecordOf, clearRecordOf};
 ghost use Rattle.steps.specs.Says.{plainStep};
 use super::Stepped;
 use super::lifecycle::stepped;
 use super::queue::hand_answer;
+use super::queue::record_answer;
 use super::queue::word_count;
 use endpoint::Answer;
 use endpoint::Core;
 use endpoint::Reason;
 use endpoint::answers::is_done;
+use transitions::by_call::with_error_info;
 use transitions::by_call::with_not_ready;
 use transitions::by_call::with_result;
 
@@ -41,6 +43,27 @@ pub fn clear_result(e: Core) -> Stepped
 {
     if e.settings.slave {
         return stepped(Answer::Done, with_result(e, 0), 0);
+    }
+    stepped(Answer::Dropped(Reason::Turn), e, 0)
+}
+
+// A slave's user sets the station's error record, in any state. Its bytes are kept by the caller.
+pub fn set_record(e: Core, body: &[u8]) -> Stepped
+    ensures { λ r. ⌜ r ≡ plainStep (setRecordOf (bare e) (now (body .entry))) ⌝ }
+{
+    let answer = record_answer(e.settings.slave, body);
+    if is_done(answer) {
+        return stepped(Answer::Done, with_error_info(e, word_count(body.len())), 0);
+    }
+    stepped(answer, e, 0)
+}
+
+// A slave's user clears it.
+pub fn clear_record(e: Core) -> Stepped
+    ensures { λ r. ⌜ r ≡ plainStep (clearRecordOf (bare e)) ⌝ }
+{
+    if e.settings.slave {
+        return stepped(Answer::Done, with_error_info(e, 0), 0);
     }
     stepped(Answer::Dropped(Reason::Turn), e, 0)
 }

@@ -7,19 +7,18 @@ use lib.Dec.{leb, ltb}
 use lib.ListN.{length}
 use borrow.Author.Tests.{leb-true}
 use Rattle.text.specs.declared.Act.{Act}
+use Rattle.text.specs.declared.Kind.{Kind}
 use Rattle.text.specs.declared.Parameter.{Parameter}
 use Rattle.text.specs.declared.Line.{Line}
 use Rattle.text.specs.declared.Line.the-variants as L
 use Rattle.text.specs.declared.parse.Name.{Name}
 use Rattle.text.specs.declared.parse.Name.the-variants.{Load, Timed, Data, Invoke, Deliver, Check, Set, Unknown}
-use Rattle.text.specs.declared.parse.Kind.{Kind}
-use Rattle.text.specs.declared.parse.Kind.the-variants as K
 use Rattle.text.specs.declared.parse.Pair.{Pair}
 use Rattle.text.specs.declared.parse.Pair.the-variants.{Both, Broken}
 use Rattle.text.specs.declared.number.Number.{Number}
 use Rattle.text.specs.declared.number.Number.the-variants.{Value, Invalid}
 use Rattle.text.specs.Reading.{wordIn, restOf, numberOf, isFrame, isWord, wordAt, isLoad}
-use Rattle.text.specs.Calls.{nameOf, timedOf, dataLine, dataOf, invokeOf, deliverOf, mostOf, setOf, timedIn}
+use Rattle.text.specs.Calls.{nameOf, timedOf, dataOf, invokeOf, deliverOf, mostOf, setOf, timedIn}
 use Rattle.text.specs.Calls.{placeOf, dataIn, invokeAt, invokeIn, deliverIn, checkIn, callOf, isComment}
 use Rattle.text.specs.Calls.{lineOf}
 
@@ -27,9 +26,8 @@ use Rattle.text.specs.Calls.{lineOf}
 abbrev Within : Line → Type 0
 Within L.Load = Unit {0}
 Within (L.Timed act clock entry) = Unit {0}
-Within (L.Send clock entry start) = Unit {0}
+Within (L.Data kind clock entry start) = Unit {0}
 Within (L.Invoke clock entry word start) = Unit {0}
-Within (L.Result clock entry start) = Unit {0}
 Within (L.Deliver clock start) = Unit {0}
 Within (L.Check start) = Unit {0}
 Within (L.Set p n) = n ≤ mostOf p
@@ -46,9 +44,8 @@ timed-within act (Both clock entry) = tt
 timed-within act Broken = tt
 
 data-within : (kind : Kind) (pair : Pair) (is : Bool) (start : ℕ) → Within (dataOf kind pair is start)
-unfolding dataOf dataLine
-data-within K.Value (Both clock entry) is start = either is (L.Send clock entry start) L.Wrong (λ _. tt) tt
-data-within K.Result (Both clock entry) is start = either is (L.Result clock entry start) L.Wrong (λ _. tt) tt
+unfolding dataOf
+data-within kind (Both clock entry) is start = either is (L.Data kind clock entry start) L.Wrong (λ _. tt) tt
 data-within kind Broken is start = tt
 
 invoke-within : (s : List ℕ) (pair : Pair) (t : List ℕ) → Within (invokeAt s pair t)

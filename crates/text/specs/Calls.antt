@@ -9,14 +9,14 @@ use lib.ListN.{length, getD}
 use Rattle.words.specs.Bytes.{same}
 use Rattle.text.specs.declared.Act.{Act}
 use Rattle.text.specs.declared.Act.the-variants as A
+use Rattle.text.specs.declared.Kind.{Kind}
+use Rattle.text.specs.declared.Kind.the-variants as K
 use Rattle.text.specs.declared.Line.{Line}
 use Rattle.text.specs.declared.Line.the-variants as L
 use Rattle.text.specs.declared.Parameter.{Parameter}
 use Rattle.text.specs.declared.Parameter.the-variants as P
 use Rattle.text.specs.declared.parse.Name.{Name}
 use Rattle.text.specs.declared.parse.Name.the-variants.{Load, Timed, Data, Invoke, Deliver, Check, Set, Unknown}
-use Rattle.text.specs.declared.parse.Kind.{Kind}
-use Rattle.text.specs.declared.parse.Kind.the-variants as K
 use Rattle.text.specs.declared.parse.Verb.{Verb}
 use Rattle.text.specs.declared.parse.Pair.{Pair}
 use Rattle.text.specs.declared.parse.Pair.the-variants.{Both, Broken}
@@ -41,6 +41,8 @@ names =
     ∷ (bytesOf "send", Data K.Value)
     ∷ (bytesOf "invoke", Invoke)
     ∷ (bytesOf "result", Data K.Result)
+    ∷ (bytesOf "record", Data K.Record)
+    ∷ (bytesOf "writeerr", Data K.WriteError)
     ∷ (bytesOf "start", Timed A.Start)
     ∷ (bytesOf "stop", Timed A.Stop)
     ∷ (bytesOf "restart", Timed A.Restart)
@@ -48,6 +50,8 @@ names =
     ∷ (bytesOf "notready", Timed A.NotReady)
     ∷ (bytesOf "ready", Timed A.Ready)
     ∷ (bytesOf "noresult", Timed A.NoResult)
+    ∷ (bytesOf "norecord", Timed A.NoRecord)
+    ∷ (bytesOf "readerr", Timed A.ReadError)
     ∷ []
 
 -- by the first entry that the word is
@@ -73,17 +77,15 @@ unfoldable pub timedOf : Act → Pair → Line
 timedOf act (Both clock entry) = L.Timed act clock entry
 timedOf act Broken = L.Wrong
 
--- a value has any count of bytes, a result at most 512
+-- a value has any count of bytes, the others at most 512
 unfoldable pub isData : Kind → List ℕ → Bool
 isData K.Value t = isHex t
 isData K.Result t = isFrame t
-
-unfoldable pub dataLine : Kind → ℕ → ℕ → ℕ → Line
-dataLine K.Value clock entry start = L.Send clock entry start
-dataLine K.Result clock entry start = L.Result clock entry start
+isData K.Record t = isFrame t
+isData K.WriteError t = isFrame t
 
 unfoldable pub dataOf : Kind → Pair → Bool → ℕ → Line
-dataOf kind (Both clock entry) is start = cond is (dataLine kind clock entry start) L.Wrong
+dataOf kind (Both clock entry) is start = cond is (L.Data kind clock entry start) L.Wrong
 dataOf kind Broken is start = L.Wrong
 
 unfoldable pub invokeOf : Pair → ℕ → ℕ → Line

@@ -23,8 +23,22 @@ pub enum Act {
     // The station's user sets 'not ready', and clears it.
     NotReady,
     Ready,
-    // The station's user clears the result.
+    // The station's user clears the result, and the error record.
     NoResult,
+    NoRecord,
+    // The master's user queues S-ReadErrorInfo.
+    ReadError,
+}
+
+// What the bytes are that follow CLOCK and ENTRY.
+pub enum Kind {
+    // The value that is sent.
+    Value,
+    // The result, and the error record, that the station's user sets.
+    Result,
+    Record,
+    // The error record of the S-WriteErrorInfo that the master's user queues.
+    WriteError,
 }
 
 // What a line sets for the calls after it.
@@ -44,7 +58,8 @@ pub enum Line {
         clock: u64,
         entry: u32,
     },
-    Send {
+    Data {
+        kind: Kind,
         clock: u64,
         entry: u32,
         start: usize,
@@ -54,12 +69,6 @@ pub enum Line {
         clock: u64,
         entry: u32,
         word: u32,
-        start: usize,
-    },
-    // The station's user sets the result.
-    Result {
-        clock: u64,
-        entry: u32,
         start: usize,
     },
     Deliver {

@@ -4,9 +4,10 @@ ghost use mathlib.Core.List.{map};
 ghost use Prim.Native.Nat.{_≤_};
 ghost use lib.ListN.{length};
 ghost use Rattle.text.specs.Calls.{entryOf, nameIn, nameOf, pairOf, timedOf, dataOf, deliverOf, mostOf, setOf};
-ghost use Rattle.text.specs.Calls.{isData, dataLine, invokeOf, pairIn, timedIn, dataIn, invokeIn, deliverIn};
+ghost use Rattle.text.specs.Calls.{isData, invokeOf, pairIn, timedIn, dataIn, invokeIn, deliverIn};
 ghost use Rattle.text.specs.Calls.{checkIn, callOf, lineOf};
 use super::Act;
+use super::Kind;
 use super::Line;
 use super::Parameter;
 use super::hex::is_frame;
@@ -20,12 +21,6 @@ use super::word::first;
 use super::word::rest;
 use words::byte_at;
 use words::same;
-
-// What the bytes after CLOCK and ENTRY are.
-pub(crate) enum Kind {
-    Value,
-    Result,
-}
 
 // What the first word of a line names.
 pub(crate) enum Name {
@@ -48,7 +43,7 @@ pub(crate) enum Pair {
 // A word that begins a call, filled up with spaces, and what it names.
 struct Verb([u8; 10], Name);
 
-type Verbs = [Verb; 15];
+type Verbs = [Verb; 19];
 
 const VERBS: Verbs = [
     Verb(*b"load      ", Name::Load),
@@ -59,6 +54,8 @@ const VERBS: Verbs = [
     Verb(*b"send      ", Name::Data(Kind::Value)),
     Verb(*b"invoke    ", Name::Invoke),
     Verb(*b"result    ", Name::Data(Kind::Result)),
+    Verb(*b"record    ", Name::Data(Kind::Record)),
+    Verb(*b"writeerr  ", Name::Data(Kind::WriteError)),
     Verb(*b"start     ", Name::Timed(Act::Start)),
     Verb(*b"stop      ", Name::Timed(Act::Stop)),
     Verb(*b"restart   ", Name::Timed(Act::Restart)),
@@ -66,6 +63,8 @@ const VERBS: Verbs = [
     Verb(*b"notready  ", Name::Timed(Act::NotReady)),
     Verb(*b"ready     ", Name::Timed(Act::Ready)),
     Verb(*b"noresult  ", Name::Timed(Act::NoResult)),
+    Verb(*b"norecord  ", Name::Timed(Act::NoRecord)),
+    Verb(*b"readerr   ", Name::Timed(Act::ReadError)),
 ];
 
 // The name that a table has for a word: by the first entry that the word is.
@@ -120,30 +119,13 @@ fn timed_of(act: Act, pair: Pair) -> Line
     }
 }
 
-// Whether a text is bytes of a kind: a value has any count, a result at most 512.
+// Whether a text is bytes of a kind: a value has any count, the others at most 512.
 fn is_data(kind: Kind, s: &[u8]) -> bool
     ensures { λ r. ⌜ r ≡ isData kind (now (s .entry)) ⌝ }
 {
     match kind {
         Kind::Value => is_hex(s),
-        Kind::Result => is_frame(s),
-    }
-}
-
-fn data_line(kind: Kind, clock: u64, entry: u32, start: usize) -> Line
-    ensures { λ r. ⌜ r ≡ dataLine kind clock entry start ⌝ }
-{
-    match kind {
-        Kind::Value => Line::Send {
-            clock,
-            entry,
-            start,
-        },
-        Kind::Result => Line::Result {
-            clock,
-            entry,
-            start,
-        },
+        Kind::Result | Kind::Record | Kind::WriteError => is_frame(s),
     }
 }
 
@@ -153,7 +135,12 @@ fn data_of(kind: Kind, pair: Pair, is: bool, start: usize) -> Line
     match pair {
         Pair::Both { clock, entry } => {
             if is {
-                return data_line(kind, clock, entry, start);
+                return Line::Data {
+                    kind,
+                    clock,
+                    entry,
+                    start,
+                };
             }
             Line::Wrong
         }

@@ -1,5 +1,5 @@
 -- What a user's call that is done leaves.
-use mathlib.Core.Bool.{false, cond}
+use mathlib.Core.Bool.{Bool, true, false, _||_, cond}
 use Prim.Native.Nat.{ℕ, _+_, _%_}
 use Rattle.frame.specs.declared.Command.{Command}
 use Rattle.frame.specs.declared.Command.the-variants as K
@@ -9,24 +9,25 @@ use Rattle.endpoint.specs.declared.State.the-variants.{Close, Starting}
 use Rattle.endpoint.specs.declared.Timestamp.the-variants.{Never}
 use Rattle.endpoint.specs.declared.Pending.the-variants.{Nothing, Asked}
 use Rattle.endpoint.specs.declared.Queue.{Queue}
-use Rattle.endpoint.specs.declared.Queue.the-variants.{Empty, Waiting, Closed}
-use Rattle.endpoint.specs.Endpoint.{Endpoint, Words, noBytes, wordsOf}
+use Rattle.endpoint.specs.declared.Queue.the-variants as Q
+use Rattle.endpoint.specs.Endpoint.{Endpoint, Words, noBytes, noRecord, wordsOf}
 use Rattle.endpoint.specs.Due.{requestDue}
 use Rattle.endpoint.specs.Time.{noValue, endedOf, timeOf}
 use Rattle.endpoint.specs.Updates.{endpointOf, inState, timedFrom, withTimestamps, withSent, withPending, withRequests}
-use Rattle.endpoint.specs.Updates.{withQueue, withWords, holding}
+use Rattle.endpoint.specs.Updates.{withQueue, withInvoked, withWords, withErrorInfo, holding}
 
 -- a connection as loaded
 abbrev pub freshOf : Settings → Endpoint
 freshOf s =
     endpointOf s Close 0 (record { sent = Never; accepted = Never })
-    (record { pending = Nothing; measured = 0; offset = 0; requests = 0; queue = Empty }) (record { notready = false })
-    (wordsOf 0 noBytes) noValue
+    (record { pending = Nothing; measured = 0; offset = 0; requests = 0; queue = Q.Empty; invoked = false })
+    (record { notready = false }) (wordsOf 0 noBytes) (wordsOf 0 noRecord) noValue
 
 -- start; the count of requests begins anew, and the queue
 abbrev pub startedOf : Endpoint → ℕ → Endpoint
 startedOf e t =
-    inState Starting (timedFrom t (withQueue Empty (withRequests 0 (withPending Nothing (holding noValue e)))))
+    inState Starting (timedFrom t (withInvoked false (withQueue Q.Empty (withRequests 0 (withPending Nothing
+    (holding noValue e))))))
 
 -- restart; what is remembered of timestamps stays, and the count of requests
 abbrev pub restartedOf : Endpoint → Endpoint
@@ -38,13 +39,18 @@ countedOf e k = cond (is k K.Disconnect) (e .setup .requests) ((e .setup .reques
 
 -- the queue is closed once S-RefreshReady has gone
 abbrev pub queueAfter : Command → Queue → Queue
-queueAfter k q = cond (is k K.RefreshReady) Closed q
+queueAfter k q = cond (is k K.RefreshReady) Q.Closed q
+
+-- S-InvokeFunc has gone once it has
+abbrev pub invokedAfter : Command → Bool → Bool
+invokedAfter k b = is k K.InvokeFunc || b
 
 -- send: a request with this timestamp
 abbrev pub requestedAt : Endpoint → ℕ → ℕ → Endpoint
 requestedAt e t stamp =
-    timedFrom t (withSent stamp (withQueue (queueAfter (requestDue e) (e .setup .queue))
-    (withRequests (countedOf e (requestDue e)) (withPending (Asked stamp) e))))
+    timedFrom t (withSent stamp (withInvoked (invokedAfter (requestDue e) (e .setup .invoked))
+    (withQueue (queueAfter (requestDue e) (e .setup .queue))
+    (withRequests (countedOf e (requestDue e)) (withPending (Asked stamp) e)))))
 
 -- the same, with the endpoint's time
 abbrev pub requestedOf : Endpoint → ℕ → Endpoint
@@ -64,6 +70,14 @@ stoppedAt e stamp =
 abbrev pub stoppedOf : Endpoint → ℕ → Endpoint
 stoppedOf e t = stoppedAt e (timeOf e t)
 
--- invoke: a command of these words waits
-abbrev pub queuedOf : Endpoint → Words → Endpoint
-queuedOf e w = withQueue Waiting (withWords w e)
+-- invoke: S-InvokeFunc of these words waits
+abbrev pub invokedOf : Endpoint → Words → Endpoint
+invokedOf e w = withQueue Q.InvokeFunc (withWords w e)
+
+-- read error: S-ReadErrorInfo waits
+abbrev pub readQueuedOf : Endpoint → Endpoint
+readQueuedOf e = withQueue Q.ReadErrorInfo e
+
+-- write error: S-WriteErrorInfo waits, with this error record
+abbrev pub writeQueuedOf : Endpoint → Words → Endpoint
+writeQueuedOf e w = withQueue Q.WriteErrorInfo (withErrorInfo w e)

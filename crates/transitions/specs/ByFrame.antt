@@ -1,11 +1,12 @@
 -- What a frame of this connection that is taken leaves.
-use mathlib.Core.Bool.{true, cond}
+use mathlib.Core.Bool.{Bool, true, cond}
 use mathlib.Core.List.{List}
 use Prim.Native.Nat.{ℕ}
 use Rattle.frame.specs.declared.Command.{Command}
 use Rattle.frame.specs.declared.Command.the-variants as K
 use Rattle.frame.specs.declared.Fields.{Fields}
 use Rattle.frame.specs.Control.{is}
+use Rattle.endpoint.specs.declared.State.the-variants.{Terminate, TerminateMore}
 use Rattle.endpoint.specs.declared.Pending.the-variants.{Nothing}
 use Rattle.endpoint.specs.declared.Queue.the-variants.{Empty}
 use Rattle.endpoint.specs.Endpoint.{Endpoint}
@@ -50,9 +51,15 @@ deferredOf e t f = timedFrom t (withAccepted (f .timestamp) e)
 abbrev pub answeredOf : Endpoint → ℕ → Fields → Endpoint
 answeredOf e t f = cond (isHeldBack e (f .command)) (deferredOf e t f) (advancedOf e t f)
 
--- what a request that is done leaves
-abbrev pub takenOf : Endpoint → ℕ → Fields → Endpoint
-takenOf e t f = cond (is (f .command) K.Disconnect) (endedBy e (f .timestamp)) (answeredOf e t f)
+-- S-WriteErrorInfo: Terminate, where further error records are taken while more follow
+abbrev pub reportedOf : Endpoint → ℕ → Bool → Endpoint
+reportedOf e stamp more = inState (cond more TerminateMore Terminate) (endedBy e stamp)
+
+-- what a request that is done leaves; `more`: it has an error record, and more follow
+abbrev pub takenOf : Endpoint → ℕ → Fields → Bool → Endpoint
+takenOf e t f more =
+    cond (is (f .command) K.Disconnect) (endedBy e (f .timestamp))
+    (cond (is (f .command) K.WriteErrorInfo) (reportedOf e (f .timestamp) more) (answeredOf e t f))
 
 -- ---- a reply at a master: to its pending request
 -- the next state

@@ -1,9 +1,9 @@
 // What a user's call that is done leaves: each step is what it changes.
 ghost use mathlib.Core.Path.{_≡_};
-ghost use Rattle.endpoint.specs.Endpoint.{noBytes, wordsOf, bare, coreOf};
-ghost use Rattle.endpoint.specs.Updates.{withWords, withNotReady};
-ghost use Rattle.transitions.specs.ByCall.{freshOf, startedOf, restartedOf, countedOf, queueAfter, requestedAt};
-ghost use Rattle.transitions.specs.ByCall.{stoppedAt, queuedOf};
+ghost use Rattle.endpoint.specs.Endpoint.{noBytes, noRecord, wordsOf, bare, coreOf};
+ghost use Rattle.endpoint.specs.Updates.{withWords, withErrorInfo, withNotReady};
+ghost use Rattle.transitions.specs.ByCall.{freshOf, startedOf, restartedOf, countedOf, queueAfter, invokedAfter};
+ghost use Rattle.transitions.specs.ByCall.{requestedAt, stoppedAt, invokedOf, readQueuedOf, writeQueuedOf};
 use endpoint::Core;
 use endpoint::Pending;
 use endpoint::Queue;
@@ -40,9 +40,11 @@ pub fn fresh(s: Settings) -> Core
             offset: 0,
             requests: 0,
             queue: Queue::Empty,
+            invoked: false,
         },
         station: Station { notready: false },
         words: 0,
+        errorinfo: 0,
         taken: false,
     }
 }
@@ -54,6 +56,7 @@ pub fn started(e: Core, clock: u64) -> Core
     let mut next = in_state(State::Starting, idle);
     next.since = clock;
     next.setup.requests = 0;
+    next.setup.invoked = false;
     next.taken = false;
     next
 }
@@ -86,6 +89,13 @@ fn queue_after(k: Command, queue: Queue) -> Queue
     queue
 }
 
+// Whether S-InvokeFunc has gone once this command has.
+fn invoked_after(k: Command, invoked: bool) -> bool
+    ensures { λ r. ⌜ r ≡ invokedAfter k invoked ⌝ }
+{
+    is(k, Command::InvokeFunc) | invoked
+}
+
 // A request with this timestamp has been sent.
 pub fn requested(e: Core, clock: u64, stamp: u64) -> Core
     ensures { λ r. ⌜ r ≡ coreOf (requestedAt (bare e) clock stamp) ⌝ }
@@ -94,10 +104,12 @@ pub fn requested(e: Core, clock: u64, stamp: u64) -> Core
     let queue = setup.queue;
     let k = request_due(e);
     let requests = counted(e, k);
+    let invoked = invoked_after(k, e.setup.invoked);
     let asked = with_sent(stamp, with_pending(Pending::Asked(stamp), e));
     let mut next = with_queue(queue_after(k, queue), asked);
     next.since = clock;
     next.setup.requests = requests;
+    next.setup.invoked = invoked;
     next
 }
 
@@ -122,12 +134,28 @@ pub fn with_not_ready(e: Core, notready: bool) -> Core
     next
 }
 
-// A command of so many words waits; its bytes are kept by the caller.
-pub fn queued(e: Core, count: u8) -> Core
-    ensures { λ r. ⌜ r ≡ coreOf (queuedOf (bare e) (wordsOf count noBytes)) ⌝ }
+// S-InvokeFunc of so many words waits; their bytes are kept by the caller.
+pub fn invoked(e: Core, count: u8) -> Core
+    ensures { λ r. ⌜ r ≡ coreOf (invokedOf (bare e) (wordsOf count noBytes)) ⌝ }
 {
-    let mut next = with_queue(Queue::Waiting, e);
+    let mut next = with_queue(Queue::InvokeFunc, e);
     next.words = count;
+    next
+}
+
+// S-ReadErrorInfo waits.
+pub fn read_queued(e: Core) -> Core
+    ensures { λ r. ⌜ r ≡ coreOf (readQueuedOf (bare e)) ⌝ }
+{
+    with_queue(Queue::ReadErrorInfo, e)
+}
+
+// S-WriteErrorInfo waits, with an error record of so many words; its bytes are kept by the caller.
+pub fn write_queued(e: Core, count: u8) -> Core
+    ensures { λ r. ⌜ r ≡ coreOf (writeQueuedOf (bare e) (wordsOf count noRecord)) ⌝ }
+{
+    let mut next = with_queue(Queue::WriteErrorInfo, e);
+    next.errorinfo = count;
     next
 }
 
@@ -137,5 +165,14 @@ pub fn with_result(e: Core, count: u8) -> Core
 {
     let mut next = e;
     next.words = count;
+    next
+}
+
+// A station's error record of so many words, 0 for none; its bytes are kept by the caller.
+pub fn with_error_info(e: Core, count: u8) -> Core
+    ensures { λ r. ⌜ r ≡ coreOf (withErrorInfo (wordsOf count noRecord) (bare e)) ⌝ }
+{
+    let mut next = e;
+    next.errorinfo = count;
     next
 }

@@ -2,11 +2,12 @@
 ghost use mathlib.Core.Path.{_≡_};
 ghost use Rattle.endpoint.specs.Endpoint.{noBytes, bare, coreOf};
 ghost use Rattle.transitions.specs.ByFrame.{refreshedOf, endedBy, measuredBy, offsetBy, advancedOf};
-ghost use Rattle.transitions.specs.ByFrame.{deferredOf, answeredOf, takenOf, confirmedOf, dueAgainOf};
+ghost use Rattle.transitions.specs.ByFrame.{deferredOf, answeredOf, reportedOf, takenOf, confirmedOf, dueAgainOf};
 ghost use Rattle.transitions.specs.ByFrame.{performedOf, heardOf};
 use endpoint::Core;
 use endpoint::Pending;
 use endpoint::Queue;
+use endpoint::State;
 use endpoint::due::is_command_due;
 use endpoint::due::is_held_back;
 use endpoint::due::request_due;
@@ -94,13 +95,27 @@ fn answered(e: Core, clock: u64, f: Fields) -> Core
     advanced(e, clock, f)
 }
 
+// S-WriteErrorInfo has been taken; more: further error records follow.
+fn reported(e: Core, stamp: u64, more: bool) -> Core
+    ensures { λ r. ⌜ r ≡ coreOf (reportedOf (bare e) stamp more) ⌝ }
+{
+    let end = ended_by(e, stamp);
+    if more {
+        return in_state(State::TerminateMore, end);
+    }
+    end
+}
+
 // What a request that is done leaves.
-pub fn taken(e: Core, clock: u64, f: Fields) -> Core
-    ensures { λ r. ⌜ r ≡ coreOf (takenOf (bare e) clock f) ⌝ }
+pub fn taken(e: Core, clock: u64, f: Fields, more: bool) -> Core
+    ensures { λ r. ⌜ r ≡ coreOf (takenOf (bare e) clock f more) ⌝ }
 {
     let k = f.command;
     if is(k, Command::Disconnect) {
         return ended_by(e, f.timestamp);
+    }
+    if is(k, Command::WriteErrorInfo) {
+        return reported(e, f.timestamp, more);
     }
     answered(e, clock, f)
 }

@@ -41,7 +41,15 @@ fn deliver(e: Core, clock: u64, bytes: &[u8], out: &mut [u8]) -> Stepped {
         Reading::Frame { fields, start, end } => {
             if start <= end {
                 if end <= bytes.len() {
-                    return steps::deliver::deliver(e, &[], clock, fields, &bytes[start..end], out);
+                    return steps::deliver::deliver(
+                        e,
+                        &[],
+                        &[],
+                        clock,
+                        fields,
+                        &bytes[start..end],
+                        out,
+                    );
                 }
             }
             unheard(e)
@@ -64,7 +72,7 @@ fn exchange(pair: Pair, sent: u64, taken: u64, replied: u64, out: &mut [u8]) -> 
     let mut none = [0u8; 248];
     let master = pair.master;
     let slave = pair.slave;
-    let request = steps::send::send(master, &[], sent, &[], out);
+    let request = steps::send::send(master, &[], &[], sent, &[], out);
     let asked = request.core;
     let answer = deliver_front(slave, taken, out, request.count, &mut reply);
     let done = deliver_front(asked, replied, &reply, answer.count, &mut none);

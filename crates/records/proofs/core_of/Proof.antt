@@ -6,11 +6,11 @@ use Rattle.records.proofs.core_of.Tie as tie
 returns : tie.Need-returns
 returns c =
     rw (
-      c .before .before .queue-from .ensures,
-      c .before .before .before .pending-from .ensures,
-      c .before .before .before .before .before .timestamp-from2 .ensures,
-      c .before .before .before .before .before .before .before .timestamp-from .ensures,
-      c .before .before .before .before .before .before .before .before .before .state-from .ensures,
+      c .before .before .before .queue-from .ensures,
+      c .before .before .before .before .pending-from .ensures,
+      c .before .before .before .before .before .before .timestamp-from2 .ensures,
+      c .before .before .before .before .before .before .before .before .timestamp-from .ensures,
+      c .before .before .before .before .before .before .before .before .before .before .state-from .ensures,
     )
 
 pub core-of-spec : {M : Type 1} → statement M

@@ -1,13 +1,14 @@
 -- `records::is_over` meets its contract: the states that have a timer, by their numbers.
 use borrow.Author.Needs.{needs}
 use borrow.Author.Tests.{le-ltb}
-use mathlib.Core.Bool.{Bool, true, false, _&&_, _||_, not}
+use mathlib.Core.Bool.{Bool, true, false, _&&_, _||_, not, cond}
 use mathlib.Core.Path.{_≡_, refl, sym, ap, _∙_}
 use native.Mathlib.Omega.{arith}
 use native.Mathlib.Decide.{decLt}
 use Prim.Native.Nat.{ℕ, zero, suc, _≤_, _<_, _-_}
 use lib.Dec.{eqb, ltb}
 use Rattle.endpoint.specs.declared.State.{State}
+use Rattle.endpoint.specs.declared.State.the-variants.{Terminate, TerminateMore}
 use Rattle.endpoint.specs.Time.{isOver}
 use Rattle.records.specs.Records.{stateFrom}
 use Rattle.records.proofs.States.{past}
@@ -20,7 +21,11 @@ or-false true = refl
 or-false false = refl
 
 past-over : (x roundtrip interval passed : ℕ) → 7 < x → isOver (stateFrom x) roundtrip interval passed ≡ false
-past-over x r i p h = ap (λ (s : State). isOver s r i p) (past x h)
+past-over x r i p h = ap (λ (s : State). isOver s r i p) (past x h) ∙ neither (eqb x 9)
+  where
+    neither : (b : Bool) → isOver (cond b TerminateMore Terminate) r i p ≡ false
+    neither true = refl
+    neither false = refl
 
 setup-over : (x roundtrip interval passed : ℕ) → x < 7
     → isOver (stateFrom x) roundtrip interval passed ≡ (not (eqb x 0) && ltb roundtrip passed)

@@ -1,31 +1,63 @@
--- `records::stored_of` meets its contract.
+-- `records::stored_of` meets its contract: number by number.
+use mathlib.Core.Path.{_≡_, ap, _∙_}
 use borrow.Author.Needs.{needs}
+use Rattle.records.specs.Records.{flagOf}
 use Rattle.records.proofs.stored_of.Statement.{statement}
 use Rattle.records.proofs.stored_of.Tie as tie
 
 returns : tie.Need-returns
 returns c =
-    rw (
-      c .flag-of6 .ensures,
-      c .before .flag-of5 .ensures,
-      c .before .before .queue-number .ensures,
-      c .before .before .before .flag-of4 .ensures,
-      c .before .before .before .before .is-asked .ensures,
-      c .before .before .before .before .before .flag-of3 .ensures,
-      c .before .before .before .before .before .before .is-at2 .ensures,
-      c .before .before .before .before .before .before .before .flag-of2 .ensures,
-      c .before .before .before .before .before .before .before .before .is-at .ensures,
-      c .before .before .before .before .before .before .before .before .before .flag-of .ensures,
-      c .before .before .before .before .before .before .before .before .before .before .state-number .ensures,
-      c .before .before .before .before .before .before .before .before .before .before .before .asked-in .ensures,
-      c .before .before .before .before .before .before .before .before .before .before .before .before .time-in2 .ensures,
-      c .before .before .before .before .before .before .before .before .before .before .before .before .before .time-in .ensures,
-    )
+    let notready = c .before in
+    let invoked = notready .before in
+    let queue = invoked .before in
+    let hasasked = queue .before in
+    let asks = hasasked .before in
+    let hasaccepted = asks .before in
+    let accepts = hasaccepted .before in
+    let hassent = accepts .before in
+    let sends = hassent .before in
+    let slave = sends .before in
+    let state = slave .before in
+    let asked = state .before in
+    let accepted = asked .before in
+    let sent = accepted .before in
+    let e = sent .before .before .before .args .e in
+    let hasasked-is = hasasked .flag-of4 .ensures ∙ ap flagOf (asks .is-asked .ensures) in
+    let hasaccepted-is = hasaccepted .flag-of3 .ensures ∙ ap flagOf (accepts .is-at2 .ensures) in
+    let hassent-is = hassent .flag-of2 .ensures ∙ ap flagOf (sends .is-at .ensures) in
+    λ i. record {
+      since = e .since;
+      sent = sent .time-in .ensures i;
+      accepted = accepted .time-in2 .ensures i;
+      asked = asked .asked-in .ensures i;
+      measured = e .setup .measured;
+      offset = e .setup .offset;
+      connection = e .settings .connection;
+      interval = e .settings .interval;
+      roundtrip = e .settings .roundtrip;
+      age = e .settings .age;
+      station = e .settings .station;
+      state = state .state-number .ensures i;
+      slave = slave .flag-of .ensures i;
+      masterwords = e .settings .masterwords;
+      slavewords = e .settings .slavewords;
+      hassent = hassent-is i;
+      hasaccepted = hasaccepted-is i;
+      hasasked = hasasked-is i;
+      requests = e .setup .requests;
+      queue = queue .queue-number .ensures i;
+      invoked = invoked .flag-of5 .ensures i;
+      notready = notready .flag-of6 .ensures i;
+      words = e .words;
+      errorinfo = e .errorinfo;
+      taken = c .flag-of7 .ensures i;
+    }
 
 pub stored-of-spec : {M : Type 1} → statement M
 stored-of-spec =
     tie.close
     (tie.spec
+    (λ c κs. search needs)
     (λ c κs. search needs)
     (λ c κs. search needs)
     (λ c κs. search needs)

@@ -46,4 +46,19 @@ first-of-spec =
       c .before .if7 .left,
       c .if8 .taken,
     ))
+    (λ c.
+    let d = c .before .before .before in
+    let b = d .before .before in
+    let a = b .before .before in
+    rw (
+      a .before .if1 .left,
+      a .if2 .left,
+      b .before .if3 .left,
+      b .if4 .left,
+      d .before .if5 .left,
+      d .if6 .left,
+      c .before .before .if7 .left,
+      c .before .if8 .left,
+      c .if9 .taken,
+    ))
     (λ c. search needs))

@@ -8,6 +8,9 @@ request-due-spec =
     tie.close
     (tie.spec
     (λ c κs. search needs)
-    (λ c. rw (← c .before .is-command-due .ensures, c .if1 .taken))
+    (λ c κs. search needs)
+    (λ c.
+    let b = c .before .before in
+    rw (c .queued-in .ensures, ← b .before .is-command-due .ensures, b .if1 .taken))
     (λ c κs. search needs)
     (λ c. rw (c .request-of .ensures, ← c .before .before .is-command-due .ensures, c .before .if1 .left)))

@@ -4,9 +4,11 @@ use borrow.Author.Tests.{ne-eqb}
 use Rattle.frame.proofs.control.command_of.Statement.{statement}
 use Rattle.frame.proofs.control.command_of.Tie as tie
 
-unlisted : tie.Need-returns-8
+unlisted : tie.Need-returns-10
 unlisted c =
-    let c6 = c .before in
+    let c8 = c .before in
+    let c7 = c8 .before in
+    let c6 = c7 .before in
     let c5 = c6 .before in
     let c4 = c5 .before in
     let c3 = c4 .before in
@@ -15,11 +17,12 @@ unlisted c =
       ne-eqb _ _ (c2 .before .if1 .left),
       ne-eqb _ _ (c2 .if2 .left),
       ne-eqb _ _ (c3 .if3 .left),
-      ne-eqb _ _
-          (c4 .if4 .left),
+      ne-eqb _ _ (c4 .if4 .left),
       ne-eqb _ _ (c5 .if5 .left),
       ne-eqb _ _ (c6 .if6 .left),
-      ne-eqb _ _ (c .if7 .left),
+      ne-eqb _ _ (c7 .if7 .left),
+      ne-eqb _ _ (c8 .if8 .left),
+      ne-eqb _ _ (c .if9 .left),
     )
 
 pub command-of-spec : {M : Type 1} → statement M
@@ -33,4 +36,6 @@ command-of-spec =
     (λ c. rw (c .if5 .taken))
     (λ c. rw (c .if6 .taken))
     (λ c. rw (c .if7 .taken))
+    (λ c. rw (c .if8 .taken))
+    (λ c. rw (c .if9 .taken))
     unlisted)

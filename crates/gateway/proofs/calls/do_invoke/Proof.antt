@@ -6,10 +6,10 @@ use lib.ListN.{length}
 use Rattle.endpoint.specs.declared.Core.{Core}
 use Rattle.endpoint.specs.Endpoint.{noBytes, bare}
 use Rattle.steps.specs.Frames.{paddedOf}
-use Rattle.steps.specs.Calls.{commandData, invokeOf, queueWith}
+use Rattle.steps.specs.Calls.{commandData, invokeOf, invokeWith}
 use Rattle.steps.specs.Says.{plainStep}
 use Rattle.records.specs.Records.{bareOf}
-use Rattle.gateway.proofs.OwnStep.{command-length, handed-moves, queue-same}
+use Rattle.gateway.proofs.OwnStep.{command-length, handed-moves, invoke-same}
 use Rattle.gateway.proofs.calls.do_invoke.Statement.{statement}
 use Rattle.gateway.proofs.calls.do_invoke.Tie as tie
 
@@ -22,12 +22,12 @@ returns c =
     let a = k .before .before .before .args in
     let word = a .p .call .word in
     let e = bareOf (a .p .stored) in
-    handed-moves (a .p) (b .before2 .result) (s .queue .result) (d .is-done .result) (c .plain .result)
+    handed-moves (a .p) (b .before2 .result) (s .invoke .result) (d .is-done .result) (c .plain .result)
     (invokeOf e word (a .bytes .now)) (c .plain .ensures) (b .before2 .ensures) (d .is-done .ensures)
-    (s .queue .ensures
-    ∙ ap (λ (x : Core). plainStep (queueWith (bare x) (4 + length (a .bytes .now)) noBytes)) (k .core-of .ensures)
-    ∙ ap (λ (n : ℕ). plainStep (queueWith e n noBytes)) (command-length word (a .bytes .now))
-    ∙ queue-same e (length (commandData word (a .bytes .now))) noBytes (paddedOf (commandData word (a .bytes .now))))
+    (s .invoke .ensures
+    ∙ ap (λ (x : Core). plainStep (invokeWith (bare x) (4 + length (a .bytes .now)) noBytes)) (k .core-of .ensures)
+    ∙ ap (λ (n : ℕ). plainStep (invokeWith e n noBytes)) (command-length word (a .bytes .now))
+    ∙ invoke-same e (length (commandData word (a .bytes .now))) noBytes (paddedOf (commandData word (a .bytes .now))))
 
 pub do-invoke-spec : {M : Type 1} → statement M
 do-invoke-spec =

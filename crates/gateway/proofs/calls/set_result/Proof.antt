@@ -9,8 +9,9 @@ use Rattle.gateway.specs.declared.Called.{Called}
 use Rattle.gateway.specs.Tables.{lent}
 use Rattle.gateway.specs.Calls.{setResultIn, CallSays}
 use Rattle.gateway.proofs.Types.{rec, call, pick as pick-type, value, value-plain, move, called, plains}
-use Rattle.gateway.proofs.Parts.{PickSaid, SettleSaid, PutWordsSaid}
-use Rattle.gateway.proofs.Follows.{HandedSaid, MadeSaid, handed-follows}
+use Rattle.gateway.specs.Parts.{withWords}
+use Rattle.gateway.proofs.Parts.{PickSaid, SettleSaid}
+use Rattle.gateway.proofs.Follows.{HandSaid, MadeSaid, PlacedSaid, handed-follows}
 use Rattle.lent.proofs.CallPut.{call-meets}
 use contract.Running.{givenOf, tables, tablesOf}
 use denote.Triple.Spec.{tripleOf}
@@ -43,6 +44,9 @@ use Rattle.gateway.proofs.calls.set_result.Code as code
 abbrev asks : Call → List ℕ → S.Act
 asks c s = S.setResult s
 
+abbrev put : List ℕ → Record → Record
+put v r = withWords r v
+
 abbrev Then : List Record → Call → List ℕ → Called → List Record → Type 0
 Then ys c s r zs = CallSays (setResultIn (lent (c .gateway) ys) (c .clock) (c .entry) s) zs r
 
@@ -52,8 +56,10 @@ set-result-spec 𝓤 H 𝓜 𝓖 𝓡 =
     entered 𝓤 H (tripleOf 𝓤 H (𝓖 .A) f.signature (f.spec 𝓤 H (𝓖 .A) (𝓜 .mem) (𝓡 .run)))
     (tables 𝓤 H 𝓜 𝓡 code.env .C) (tables 𝓤 H 𝓜 𝓡 code.env .Λ) #set-result code.function (code.unfolded 𝓤 H 𝓜 𝓡)
     (call-meets rec call pick-type move value called plains value-plain #pick #do-set-result #result-of #settle #put-words PickSaid
-    (HandedSaid asks (λ x s. refl) (λ x s. refl)) (MadeSaid asks (λ x s. refl) (λ x s. refl)) SettleSaid PutWordsSaid Then
-    (handed-follows asks (λ x s. refl) (λ x s. refl))
+    (HandSaid asks (λ x s. refl) (λ x s. refl) put (λ x s v. refl))
+    (MadeSaid asks (λ x s. refl) (λ x s. refl) put (λ x s v. refl)) SettleSaid
+    (PlacedSaid asks (λ x s. refl) (λ x s. refl) put (λ x s v. refl)) Then
+    (handed-follows asks (λ x s. refl) (λ x s. refl) put (λ x s v. refl))
     𝓤 H (𝓖 .A) (givenOf 𝓤 H 𝓜 𝓖) (tablesOf 𝓤 H 𝓜 (tables 𝓤 H 𝓜 𝓡 code.env))
     (cited 𝓤 H (tripleOf 𝓤 H (𝓖 .A) pick.signature (pick.spec 𝓤 H (𝓖 .A) (𝓜 .mem) (𝓡 .run))) 𝓜 𝓡 code.env #pick
     pick-def.routine code.calls-gateway·slice·pick (pick-thm.met 𝓤 H 𝓜 𝓖 𝓡))

@@ -11,4 +11,11 @@ is-expected-spec =
     (λ c κs. search needs)
     (λ c κs. search needs)
     (λ c κs. c .setup-data .ensures .fits)
-    (λ c. let d = c .before in rw (c .is-data .ensures, d .setup-data .ensures .holds, d .before .is2 .ensures, d .before .before .is .ensures)))
+    (λ c.
+    let d = c .before in
+    rw (
+      c .is-data .ensures,
+      d .setup-data .ensures .holds,
+      d .before .is-users .ensures,
+      d .before .before .is .ensures,
+    )))

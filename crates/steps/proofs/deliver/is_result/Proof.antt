@@ -8,4 +8,5 @@ is-result-spec =
     tie.close
     (tie.spec
     (λ c κs. search needs)
-    (λ c. rw (c .before .is .ensures)))
+    (λ c κs. search needs)
+    (λ c. rw (c .is2 .ensures, c .before .before .is .ensures)))

@@ -11,6 +11,12 @@ is-width-spec =
     (λ c κs. search needs)
     (λ c. rw (c .is-body-length .ensures, ← c .before .before .is .ensures, c .before .if1 .taken))
     (λ c κs. search needs)
+    (λ c κs. search needs)
     (λ c.
-    let d = c .before in
-    rw (d .setup-data .ensures .counted, ← d .before .before .is .ensures, d .before .if1 .left)))
+    let d = c .before .before in
+    rw (
+      c .before .is2 .ensures,
+      d .setup-data .ensures .counted,
+      ← d .before .before .is .ensures,
+      d .before .if1 .left,
+    )))

@@ -13,8 +13,8 @@ returns c =
       x .is-expected .ensures,
       x .before .is-width .ensures,
       i .is-above .ensures,
-      i .before .is-no .ensures,
-      i .before .before .next-state .ensures,
+      i .before .lacks-record .ensures,
+      i .before .before .is-turn .ensures,
     )
 
 pub request-answer-spec : {M : Type 1} → statement M

@@ -20,7 +20,7 @@ use Rattle.steps.specs.Deliveries.{isResult, takeReply}
 use Rattle.steps.specs.Frames.{nothing}
 use Rattle.steps.specs.Frames as W
 use Rattle.steps.specs.Says.{steppedOf}
-use Rattle.steps.specs.Values.{withWordBytes}
+use Rattle.steps.specs.Values.{withHanded}
 use Rattle.steps.proofs.Firsts.{is-done}
 use Rattle.steps.proofs.Handed.{heard-core, refused-core, reply-le}
 use Rattle.steps.proofs.Left.{left-refused}
@@ -33,9 +33,9 @@ returns c =
     let i = c .before in
     let d = i .before in
     let s = d .before in
-    let a = s .before .before .before .before .args in
+    let a = s .before .before .before .before .before .args in
     let b = bare (a .e) in
-    let e = withWordBytes (a .words .now) b in
+    let e = withHanded (a .words .now) (a .errorinfo .now) b in
     let r = s .reply-answer .result in
     let x = leftBy r e (endedOf e) e in
     let h : isDone r ≡ false = sym (d .is-done .ensures) ∙ not-true (d .is-done .result) (i .if1 .taken) in
@@ -43,16 +43,16 @@ returns c =
     rw (← s .reply-answer .ensures, h) (ap (λ (y : Endpoint). outcome r y nothing)
     (left-refused e (endedOf e) (heardOf e (a .clock) (a .f)) r h)) in
     quiet-step (a .out .now) (takeReply e (a .clock) (a .f) (a .body .now)) r x q
-    (c .refused .ensures ∙ ap (λ (y : Core). steppedOf r y 0) (refused-core b (a .words .now) r))
+    (c .refused .ensures ∙ ap (λ (y : Core). steppedOf r y 0) (refused-core b (a .words .now) (a .errorinfo .now) r))
 
 copy-requires : tie.Need-copy-requires
 copy-requires c κs =
     let i = c .before .before .before .before in
     let d = i .before in
     let s = d .before in
-    let t = s .before .before .before .before in
+    let t = s .before .before .before .before .before in
     let a = t .args in
-    let e = withWordBytes (a .words .now) (bare (a .e)) in
+    let e = withHanded (a .words .now) (a .errorinfo .now) (bare (a .e)) in
     let h = is-done (s .reply-answer .result) (sym (d .is-done .ensures) ∙ not-false (d .is-done .result) (i .if1 .left)) in
     let l = reply-le e (a .f) (a .body .now) (sym (s .reply-answer .ensures) ∙ h) in
     let m = t .pre in
@@ -67,9 +67,9 @@ returns-2 c =
     let i = n .before in
     let d = i .before in
     let s = d .before in
-    let a = s .before .before .before .before .args in
+    let a = s .before .before .before .before .before .args in
     let b = bare (a .e) in
-    let e = withWordBytes (a .words .now) b in
+    let e = withHanded (a .words .now) (a .errorinfo .now) b in
     let body = a .body .now in
     let x = heardOf e (a .clock) (a .f) in
     let h = is-done (s .reply-answer .result) (sym (d .is-done .ensures) ∙ not-false (d .is-done .result) (i .if1 .left)) in
@@ -79,7 +79,7 @@ returns-2 c =
     value-step (a .out .now) (takeReply e (a .clock) (a .f) body) Done x body q (k .copy .ensures .0)
     (rw (take-length body) at (k .copy .ensures .1))
     (c .stepped .ensures ∙ ap (λ (y : Core). steppedOf Done y (k .copy .result))
-    (n .heard .ensures ∙ heard-core b (a .words .now) (a .clock) (a .f)))
+    (n .heard .ensures ∙ heard-core b (a .words .now) (a .errorinfo .now) (a .clock) (a .f)))
 
 returns-3 : tie.Need-returns-3
 returns-3 c =
@@ -88,9 +88,9 @@ returns-3 c =
     let i = n .before in
     let d = i .before in
     let s = d .before in
-    let a = s .before .before .before .before .args in
+    let a = s .before .before .before .before .before .args in
     let b = bare (a .e) in
-    let e = withWordBytes (a .words .now) b in
+    let e = withHanded (a .words .now) (a .errorinfo .now) b in
     let x = heardOf e (a .clock) (a .f) in
     let h = is-done (s .reply-answer .result) (sym (d .is-done .ensures) ∙ not-false (d .is-done .result) (i .if1 .left)) in
     let result : isResult (a .f) ≡ false = sym (j .before .is-result .ensures) ∙ j .if2 .left in
@@ -98,7 +98,7 @@ returns-3 c =
     rw (← s .reply-answer .ensures, h, result) in
     quiet-step (a .out .now) (takeReply e (a .clock) (a .f) (a .body .now)) Done x q
     (c .stepped2 .ensures ∙ ap (λ (y : Core). steppedOf Done y 0)
-    (n .heard .ensures ∙ heard-core b (a .words .now) (a .clock) (a .f)))
+    (n .heard .ensures ∙ heard-core b (a .words .now) (a .errorinfo .now) (a .clock) (a .f)))
 
 pub take-reply-spec : {M : Type 1} → statement M
 take-reply-spec =

@@ -8,6 +8,7 @@ use Prim.Native.Nat.{ℕ}
 use Rattle.frame.specs.declared.Command.the-variants as K
 use Rattle.frame.specs.declared.Fields.{Fields}
 use Rattle.frame.specs.Control.{is}
+use Rattle.errors.specs.Reading.{moreFollows}
 use Rattle.endpoint.specs.declared.Answer.{Answer}
 use Rattle.endpoint.specs.declared.Core.{Core}
 use Rattle.endpoint.specs.Endpoint.{Endpoint, bare, coreOf}
@@ -17,7 +18,7 @@ use Rattle.steps.specs.Calls.{outcome}
 use Rattle.steps.specs.Deliveries.{requestFaults, repliedOf, takeRequest}
 use Rattle.steps.specs.Frames.{Written, nothing, frame, replyFields, isBusy, replyData}
 use Rattle.steps.specs.Says.{steppedOf}
-use Rattle.steps.specs.Values.{withWordBytes}
+use Rattle.steps.specs.Values.{withHanded}
 use Rattle.steps.proofs.Firsts.{request-width}
 use Rattle.steps.proofs.Handed.{left-core}
 use Rattle.steps.proofs.Left.{left-dropped, left-answered}
@@ -32,7 +33,7 @@ module _ (e : Endpoint) (t : ℕ) (f : Fields) (body : List ℕ) (a : Answer) (q
   ends = endedBy e (f .timestamp)
 
   abbrev next : Endpoint
-  next = takenOf e t f
+  next = takenOf e t f (moreFollows body)
 
   abbrev leaves : Endpoint
   leaves = cond (isDone a) next ends
@@ -47,7 +48,7 @@ module _ (e : Endpoint) (t : ℕ) (f : Fields) (body : List ℕ) (a : Answer) (q
   reply dropped disconnect =
       cond (dropped || disconnect) nothing
       (frame (replyFields e f (isDone a && isBusy e (f .command) (length body)) (isEnded a))
-      (replyData e (f .command) body))
+      (replyData e (f .command) (isDone a) body))
 
   dropped-is : isDropped a ≡ true → takeRequest e t f body ≡ outcome a e nothing
   dropped-is h =
@@ -61,8 +62,8 @@ returns : tie.Need-returns
 returns c =
     let i = c .before in
     let s = i .before .before in
-    let a = s .before .before .before .before .args in
-    let e = withWordBytes (a .words .now) (bare (a .e)) in
+    let a = s .before .before .before .before .before .args in
+    let e = withHanded (a .words .now) (a .errorinfo .now) (bare (a .e)) in
     let r = s .request-answer .result in
     quiet-step (a .out .now) (takeRequest e (a .clock) (a .f) (a .body .now)) r e
     (dropped-is e (a .clock) (a .f) (a .body .now) r (s .request-answer .ensures)
@@ -73,20 +74,24 @@ returns-2 c =
     let j = c .before in
     let k = j .before in
     let l = k .before in
-    let d = l .before in
+    let m = l .before in
+    let d = m .before in
     let i = d .before in
     let s = i .before .before in
-    let a = s .before .before .before .before .args in
-    let e = withWordBytes (a .words .now) (bare (a .e)) in
+    let a = s .before .before .before .before .before .args in
+    let e = withHanded (a .words .now) (a .errorinfo .now) (bare (a .e)) in
+    let x = a .body .now in
     let r = s .request-answer .result in
-    quiet-step (a .out .now) (takeRequest e (a .clock) (a .f) (a .body .now)) r
-    (leaves e (a .clock) (a .f) (a .body .now) r (s .request-answer .ensures))
-    (answered-is e (a .clock) (a .f) (a .body .now) r (s .request-answer .ensures) true
-    (sym (i .before .is-dropped .ensures) ∙ i .if1 .left) (sym (k .is .ensures) ∙ j .if2 .taken))
-    (c .stepped2 .ensures ∙ ap (λ (x : Core). steppedOf r x 0)
-    (left-is e (a .clock) (a .f) (a .body .now) r (s .request-answer .ensures)
-    (l .left .ensures ∙ left-core (bare (a .e)) (a .words .now) (a .clock) (a .f) (d .is-done .result))
-    (d .is-done .ensures)))
+    let kept = sym (i .before .is-dropped .ensures) ∙ i .if1 .left in
+    let next = leaves e (a .clock) (a .f) x r (s .request-answer .ensures) in
+    let left = rw (m .more-follows .ensures) at (l .left .ensures) in
+    quiet-step (a .out .now) (takeRequest e (a .clock) (a .f) x) r next
+    (answered-is e (a .clock) (a .f) x r (s .request-answer .ensures) true kept
+    (sym (k .is .ensures) ∙ j .if2 .taken))
+    (c .stepped2 .ensures ∙ ap (λ (z : Core). steppedOf r z 0)
+    (left-is e (a .clock) (a .f) x r (s .request-answer .ensures)
+    (left ∙ left-core (bare (a .e)) (a .words .now) (a .errorinfo .now) (a .clock) (a .f) (moreFollows x)
+    (d .is-done .result)) (d .is-done .ensures)))
 
 returns-3 : tie.Need-returns-3
 returns-3 c =
@@ -97,18 +102,20 @@ returns-3 c =
     let j = b .before in
     let k = j .before in
     let l = k .before in
-    let d = l .before in
+    let m = l .before in
+    let d = m .before in
     let i = d .before in
     let s = i .before .before in
-    let t = s .before .before .before .before in
+    let t = s .before .before .before .before .before in
     let a = t .args in
-    let e = withWordBytes (a .words .now) (bare (a .e)) in
+    let e = withHanded (a .words .now) (a .errorinfo .now) (bare (a .e)) in
     let x = a .body .now in
-    let y = replyData e (a .f .command) x in
     let r = s .request-answer .result in
+    let y = replyData e (a .f .command) (isDone r) x in
     let kept = sym (i .before .is-dropped .ensures) ∙ i .if1 .left in
     let other = sym (k .is .ensures) ∙ j .if2 .left in
     let next = leaves e (a .clock) (a .f) x r (s .request-answer .ensures) in
+    let left = rw (m .more-follows .ensures) at (l .left .ensures) in
     let g = replyFields e (a .f) (isDone r && isBusy e (a .f .command) (length x)) (isEnded r) in
     let fields : f .reply-fields .result ≡ g =
     f .reply-fields .ensures
@@ -118,11 +125,11 @@ returns-3 c =
     (answered-is e (a .clock) (a .f) x r (s .request-answer .ensures) false kept other)
     (whole g y (a .out .now) (t .pre .0)
     (reply-writable e (a .clock) (a .f) (isDone r) (isEnded r) x (t .pre .1) other n)
-    (rw (h .head-of .ensures, fields) at (w .write-reply .ensures)))
+    (rw (h .head-of .ensures, fields, d .is-done .ensures) at (w .write-reply .ensures)))
     (c .stepped3 .ensures ∙ ap (λ (z : Core). steppedOf r z (w .write-reply .result))
     (left-is e (a .clock) (a .f) x r (s .request-answer .ensures)
-    (l .left .ensures ∙ left-core (bare (a .e)) (a .words .now) (a .clock) (a .f) (d .is-done .result))
-    (d .is-done .ensures)))
+    (left ∙ left-core (bare (a .e)) (a .words .now) (a .errorinfo .now) (a .clock) (a .f) (moreFollows x)
+    (d .is-done .result)) (d .is-done .ensures)))
 
 pub take-request-spec : {M : Type 1} → statement M
 take-request-spec =
@@ -132,6 +139,7 @@ take-request-spec =
     (λ c κs. search needs)
     (λ c κs. search needs)
     returns
+    (λ c κs. search needs)
     (λ c κs. search needs)
     (λ c κs. search needs)
     (λ c κs. search needs)

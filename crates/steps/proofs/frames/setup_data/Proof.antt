@@ -2,7 +2,7 @@
 use mathlib.Core.Path.{refl}
 use Prim.Native.Nat.{_+_, _*_}
 use borrow.Author.Needs.{needs}
-use Rattle.steps.proofs.Data.{one-word, four-words}
+use Rattle.steps.proofs.Bodies.{one-word, four-words}
 use Rattle.steps.proofs.frames.setup_data.Statement.{statement}
 use Rattle.steps.proofs.frames.setup_data.Tie as tie
 
@@ -54,6 +54,18 @@ returns-8 c =
     one-word (a .s) (a .k) 0 (rw (c .before .enum-told8 .given .1)) (c .one-word7 .ensures .0)
     (c .one-word7 .ensures .1)
 
+returns-9 : tie.Need-returns-9
+returns-9 c =
+    let a = c .before .before .before .args in
+    one-word (a .s) (a .k) 0 (rw (c .before .enum-told9 .given .1)) (c .one-word8 .ensures .0)
+    (c .one-word8 .ensures .1)
+
+returns-10 : tie.Need-returns-10
+returns-10 c =
+    let a = c .before .before .before .args in
+    one-word (a .s) (a .k) 0 (rw (c .before .enum-told10 .given .1)) (c .one-word9 .ensures .0)
+    (c .one-word9 .ensures .1)
+
 pub setup-data-spec : {M : Type 1} → statement M
 setup-data-spec =
     tie.close
@@ -78,6 +90,10 @@ setup-data-spec =
     (λ c κs. search needs)
     (λ c. search needs)
     (λ c κs. search needs)
+    (λ c. search needs)
+    (λ c κs. search needs)
+    (λ c. search needs)
+    (λ c κs. search needs)
     returns
     returns-2
     returns-3
@@ -85,4 +101,6 @@ setup-data-spec =
     returns-5
     returns-6
     returns-7
-    returns-8)
+    returns-8
+    returns-9
+    returns-10)

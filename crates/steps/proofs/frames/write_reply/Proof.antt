@@ -1,50 +1,49 @@
 -- `steps::frames::write_reply` meets its contract.
 use borrow.Author.Needs.{needs}
 use lib.ListN.{length}
+use mathlib.Core.Bool.{true, false, _&&_}
 use mathlib.Core.Path.{_≡_, sym, ap, _∙_}
-use lib.Seq.{length-take-le}
+use Rattle.frame.specs.declared.Command.the-variants as K
+use Rattle.frame.specs.Control.{is}
 use Rattle.endpoint.specs.Endpoint.{bare}
-use Rattle.steps.specs.Frames.{handedOver, isPerformed, replyData}
-use Rattle.steps.specs.Values.{withWordBytes}
-use Rattle.steps.proofs.Dispatch.{cond-true, cond-false}
-use Rattle.steps.proofs.Whole.{within-array, front-handed}
+use Rattle.steps.specs.Frames.{isPerformed}
 use Rattle.steps.proofs.frames.write_reply.Statement.{statement}
 use Rattle.steps.proofs.frames.write_reply.Tie as tie
 
-within : tie.Need-array-share-prefix-array
-within c =
-    let a = c .before .before .before .before .before .before .before .args in
-    within-array (withWordBytes (a .words .now) (bare (a .e)) .words) (c .before .padded .ensures) (c .width .ensures)
-
-slice-aggregate-write-head : tie.Need-slice-aggregate-write-head
-slice-aggregate-write-head c =
-    let n = c .before in
-    sym (length-take-le (n .width .result) (n .before .padded .result) (within n))
-
 returns : tie.Need-returns
 returns c =
-    let h = c .before .before in
-    let n = h .before .before .before in
-    let p = n .before in
-    let i = p .before in
-    let a = i .before .before .before .before .before .args in
-    let e = withWordBytes (a .words .now) (bare (a .e)) in
-    let b = a .body .now in
-    let x : _ ≡ replyData e (a .k) b =
-    front-handed (e .words) (p .padded .ensures) (n .width .ensures)
-    ∙ sym (cond-true (isPerformed e (a .k) (length b)) (handedOver (e .words)) b
-    (sym (i .before .is-performed .ensures) ∙ i .if1 .taken)) in
-    rw x at (h .write-head .ensures)
+    let w = c .before .before in
+    let h = w .before .before in
+    let i = h .before in
+    let a = i .before .before .before .before .before .before .args in
+    let p : isPerformed (bare (a .e)) (a .k) (length (a .body .now)) ≡ true =
+    sym (i .before .is-performed .ensures) ∙ i .if1 .taken in
+    rw (p, ← h .handed-over .ensures .holds) (w .write-data .ensures)
 
 returns-2 : tie.Need-returns-2
 returns-2 c =
-    let d = c .before .before in
-    let i = d .before .before in
-    let a = i .before .before .before .before .before .args in
-    let e = withWordBytes (a .words .now) (bare (a .e)) in
-    let b = a .body .now in
-    rw (cond-false (isPerformed e (a .k) (length b)) (handedOver (e .words)) b
-    (sym (i .before .is-performed .ensures) ∙ i .if1 .left)) (d .write-head2 .ensures)
+    let w = c .before .before in
+    let h = w .before .before in
+    let j = h .before in
+    let i = j .before .before in
+    let a = i .before .before .before .before .before .before .args in
+    let p : isPerformed (bare (a .e)) (a .k) (length (a .body .now)) ≡ false =
+    sym (i .before .is-performed .ensures) ∙ i .if1 .left in
+    let q : (is (a .k) K.ReadErrorInfo && a .done) ≡ true =
+    rw (← j .before .is .ensures) (j .if2 .taken) in
+    rw (p, q, ← h .record-in .ensures .holds) (w .write-data2 .ensures)
+
+returns-3 : tie.Need-returns-3
+returns-3 c =
+    let w = c .before .before in
+    let j = w .before .before in
+    let i = j .before .before in
+    let a = i .before .before .before .before .before .before .args in
+    let p : isPerformed (bare (a .e)) (a .k) (length (a .body .now)) ≡ false =
+    sym (i .before .is-performed .ensures) ∙ i .if1 .left in
+    let q : (is (a .k) K.ReadErrorInfo && a .done) ≡ false =
+    rw (← j .before .is .ensures) (j .if2 .left) in
+    rw (p, q) (w .write-head .ensures)
 
 pub write-reply-spec : {M : Type 1} → statement M
 write-reply-spec =
@@ -52,12 +51,14 @@ write-reply-spec =
     (tie.spec
     (λ c κs. search needs)
     (λ c κs. search needs)
-    (λ c κs. search needs)
-    within
-    slice-aggregate-write-head
-    (λ c κs. search needs)
+    (λ c κs. c .before .handed-over .ensures .fits)
     (λ c. search needs)
     returns
     (λ c κs. search needs)
+    (λ c κs. search needs)
+    (λ c κs. c .before .record-in .ensures .fits)
     (λ c. search needs)
-    returns-2)
+    returns-2
+    (λ c κs. search needs)
+    (λ c. search needs)
+    returns-3)

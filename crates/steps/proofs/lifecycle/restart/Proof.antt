@@ -6,7 +6,7 @@ use Rattle.steps.proofs.lifecycle.restart.Tie as tie
 returns : tie.Need-returns
 returns c =
     let t = c .before .before in
-    rw (c .stepped .ensures, c .before .restarted .ensures, ← t .before .is-state .ensures, t .if1 .taken)
+    rw (c .stepped .ensures, c .before .restarted .ensures, ← t .before .is-terminated .ensures, t .if1 .taken)
 
 pub restart-spec : {M : Type 1} → statement M
 restart-spec =
@@ -17,4 +17,4 @@ restart-spec =
     (λ c κs. search needs)
     returns
     (λ c κs. search needs)
-    (λ c. rw (c .stepped2 .ensures, ← c .before .before .is-state .ensures, c .before .if1 .left)))
+    (λ c. rw (c .stepped2 .ensures, ← c .before .before .is-terminated .ensures, c .before .if1 .left)))

@@ -11,7 +11,7 @@ returns c =
       c .first-of .ensures,
       c .before .call-faults .ensures,
       s .is-above .ensures,
-      t .is-state2 .ensures,
+      t .is-terminated .ensures,
       t .before .is-state .ensures,
     )
 

@@ -10,7 +10,7 @@ use Rattle.steps.proofs.Whole.{whole, request-writable, refresh-writabl
 use Rattle.transitions.specs.ByCall.{requestedOf, refreshSentOf}
 use Rattle.steps.specs.Calls.{outcome, refused, sendOf}
 use Rattle.steps.specs.Says.{steppedOf}
-use Rattle.steps.specs.Values.{withWordBytes}
+use Rattle.steps.specs.Values.{withHanded}
 use Rattle.steps.specs.Frames.{frame, dueData, sendWidth, requestFields, refreshFields}
 use Rattle.endpoint.specs.declared.Answer.the-variants.{Done}
 use Rattle.endpoint.specs.declared.Core.{Core}
@@ -20,9 +20,9 @@ use Rattle.steps.proofs.send.send.Tie as tie
 
 returns : tie.Need-returns
 returns c =
-    let a = c .before .before .before .before .before .args in
+    let a = c .before .before .before .before .before .before .args in
     let b = bare (a .e) in
-    short (a .out .now) b (sendOf (withWordBytes (a .words .now) b) (a .clock) (a .value .now)) (c .before .if1 .taken)
+    short (a .out .now) b (sendOf (withHanded (a .words .now) (a .errorinfo .now) b) (a .clock) (a .value .now)) (c .before .if1 .taken)
     (c .stepped .ensures)
 
 returns-2 : tie.Need-returns-2
@@ -31,15 +31,15 @@ returns-2 c =
     let d = i .before in
     let s = d .before in
     let stamp = s .before .time-of .ensures in
-    let a = s .before .before .before .before .before .before .args in
+    let a = s .before .before .before .before .before .before .before .args in
     let b = bare (a .e) in
-    let e = withWordBytes (a .words .now) b in
+    let e = withHanded (a .words .now) (a .errorinfo .now) b in
     let r = s .send-answer .result in
     let o = sendOf e (a .clock) (a .value .now) in
     let q : o ≡ refused e r =
     rw (← stamp, ← s .send-answer .ensures, ← d .is-done .ensures, not-true (d .is-done .result) (i .if2 .taken)) in
     quiet (a .out .now) b o (s .before .before .if1 .left) r (refused e r .endpoint) q
-    (c .refused .ensures ∙ ap (λ (x : Core). steppedOf r x 0) (refused-core b (a .words .now) r))
+    (c .refused .ensures ∙ ap (λ (x : Core). steppedOf r x 0) (refused-core b (a .words .now) (a .errorinfo .now) r))
 
 returns-3 : tie.Need-returns-3
 returns-3 c =
@@ -50,9 +50,9 @@ returns-3 c =
     let d = i .before .before in
     let s = d .before in
     let stamp = s .before .time-of .ensures in
-    let a = s .before .before .before .before .before .before .args in
+    let a = s .before .before .before .before .before .before .before .args in
     let b = bare (a .e) in
-    let e = withWordBytes (a .words .now) b in
+    let e = withHanded (a .words .now) (a .errorinfo .now) b in
     let v = a .value .now in
     let x = refreshSentOf e (a .clock) in
     let g = refreshFields e (a .clock) in
@@ -73,16 +73,17 @@ returns-3 c =
 returns-4 : tie.Need-returns-4
 returns-4 c =
     let w = c .before .before .before .before in
-    let h = w .before .before in
+    let u = w .before .before in
+    let h = u .before in
     let f = h .before in
     let j = f .before in
     let i = j .before in
     let d = i .before .before in
     let s = d .before in
     let stamp = s .before .time-of .ensures in
-    let a = s .before .before .before .before .before .before .args in
+    let a = s .before .before .before .before .before .before .before .args in
     let b = bare (a .e) in
-    let e = withWordBytes (a .words .now) b in
+    let e = withHanded (a .words .now) (a .errorinfo .now) b in
     let v = dueData e in
     let x = requestedOf e (a .clock) in
     let g = requestFields e (a .clock) in
@@ -93,7 +94,7 @@ returns-4 c =
     rw (← stamp, ← s .send-answer .ensures, ← d .is-done .ensures, done, setup) in
     loud (a .out .now) b (sendOf e (a .clock) (a .value .now)) room Done x g v q
     (whole g v (a .out .now) room (request-writable e (a .clock))
-    (rw (h .head-of2 .ensures, f .request-fields .ensures, stamp) at (w .write-due .ensures)))
+    (rw (h .head-of2 .ensures, f .request-fields .ensures, stamp, u .due-data .ensures .holds) at (w .write-data .ensures)))
     (rw (← stamp, ← c .before .requested .ensures) (c .stepped3 .ensures))
 
 pub send-spec : {M : Type 1} → statement M
@@ -118,6 +119,7 @@ send-spec =
     (λ c κs. search needs)
     (λ c κs. search needs)
     (λ c κs. search needs)
+    (λ c κs. c .before .due-data .ensures .fits)
     (λ c κs. search needs)
     (λ c κs. search needs)
     (λ c. search needs)

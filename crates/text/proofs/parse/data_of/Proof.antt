@@ -6,8 +6,7 @@ use Rattle.text.proofs.parse.data_of.Tie as tie
 
 returns : tie.Need-returns
 unfolding dataOf
-returns c =
-    rw (c .before .before .before .pair .given .1, c .before .if1 .taken) (c .data-line .ensures)
+returns c = rw (c .before .before .pair .given .1, c .if1 .taken)
 
 returns-2 : tie.Need-returns-2
 unfolding dataOf
@@ -22,7 +21,6 @@ data-of-spec =
     tie.close
     (tie.spec
     (λ c. search needs)
-    (λ c κs. search needs)
     returns
     (λ c. search needs)
     returns-2

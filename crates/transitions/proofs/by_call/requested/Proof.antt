@@ -5,14 +5,16 @@ use Rattle.transitions.proofs.by_call.requested.Tie as tie
 
 returns : tie.Need-returns
 returns c =
-    let q = c .before .before in
+    let q = c .before .before .before in
     let p = q .before .before in
-    let k = p .before in
+    let i = p .before in
+    let k = i .before in
     rw (
-      c .before .with-queue .ensures,
+      c .before .before .with-queue .ensures,
       q .queue-after .ensures,
       q .before .with-sent .ensures,
       p .with-pending .ensures,
+      i .invoked-after .ensures,
       k .counted .ensures,
       k .before .request-due .ensures,
     )
@@ -21,6 +23,7 @@ pub requested-spec : {M : Type 1} → statement M
 requested-spec =
     tie.close
     (tie.spec
+    (λ c κs. search needs)
     (λ c κs. search needs)
     (λ c κs. search needs)
     (λ c κs. search needs)

@@ -6,9 +6,9 @@ use Rattle.transitions.proofs.by_call.started.Tie as tie
 returns : tie.Need-returns
 returns c =
     rw (
-      c .before .in-state .ensures,
-      c .before .before .with-queue .ensures,
-      c .before .before .before .with-pending .ensures,
+      c .before .before .in-state .ensures,
+      c .before .before .before .with-queue .ensures,
+      c .before .before .before .before .with-pending .ensures,
     )
 
 pub started-spec : {M : Type 1} → statement M

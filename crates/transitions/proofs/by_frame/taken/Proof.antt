@@ -11,4 +11,23 @@ taken-spec =
     (λ c κs. search needs)
     (λ c. rw (c .ended-by .ensures, ← c .before .before .is .ensures, c .before .if1 .taken))
     (λ c κs. search needs)
-    (λ c. rw (c .answered .ensures, ← c .before .before .is .ensures, c .before .if1 .left)))
+    (λ c κs. search needs)
+    (λ c.
+    let i = c .before .before in
+    rw (
+      c .reported .ensures,
+      ← i .before .before .is .ensures,
+      i .before .if1 .left,
+      ← i .is2 .ensures,
+      c .before .if2 .taken,
+    ))
+    (λ c κs. search needs)
+    (λ c.
+    let i = c .before .before in
+    rw (
+      c .answered .ensures,
+      ← i .before .before .is .ensures,
+      i .before .if1 .left,
+      ← i .is2 .ensures,
+      c .before .if2 .left,
+    )))

@@ -1,0 +1,10 @@
+-- The whole table of cases, under one theorem.
+use mathlib.Core.List.{List, _++_}
+use Rattle.cases.specs.Cases.{Case, mainCases, Hold}
+use Rattle.cases.specs.ErrorRecords.{recordCases}
+
+abbrev pub cases : List Case
+cases = mainCases ++ recordCases
+
+abbrev pub CasesHold : Type 0
+CasesHold = Hold cases
