@@ -1,0 +1,2 @@
+-- What error records say changes nothing but what carries them.
+pub mod NonInterference
