@@ -7,17 +7,20 @@ Declaration = namedtuple('Declaration', 'name line whole')
 
 ANTT = re.compile(r'( *)(?:(?:pub|abbrev|unfoldable) )*(?:(?:record|data) ([^\s:]+)|(?!let )([^\s:(){}]+) :(?= |$))')
 ITEM = re.compile(r'(?:#\[\w+\])?(?:pub(?:\(crate\))? )?(?:extern "C" )?(fn|struct|enum|const) (\w+)')
+MODULE = re.compile(r'module _ ')
 PART = {'struct': re.compile(r' +pub (\w+):'), 'enum': re.compile(r'    ([A-Z]\w*)(?=[,({ ])')}
 
 
-# Signatures, records, data, fields and constructors.
+# Signatures, records, data, fields and constructors. What stands two spaces in under `module _` is no part of another.
 def of_antt(lines):
-    whole = ''
+    whole, margin = '', 0
     for i, line in enumerate(lines):
+        if line and not line.startswith(' '):
+            margin = 2 if MODULE.match(line) else 0
         found = ANTT.match(line)
         if found:
             name = found.group(2) or found.group(3)
-            whole = whole if found.group(1) else name
+            whole = whole if len(found.group(1)) > margin else name
             yield Declaration(name, i, whole)
 
 
