@@ -194,6 +194,7 @@ struct folderpink_stored {
     uint64_t asked;    /* that of a master's request that waits for its reply, if hasasked is set */
     uint64_t measured; /* s2 at a slave, m2 at a master */
     uint64_t offset;   /* ts_offset at a slave */
+    uint64_t valueage; /* how old the value was when it was accepted, in ticks; 0 where none was */
     uint8_t hassent;
     uint8_t hasaccepted;
     uint8_t hasasked;
@@ -247,9 +248,11 @@ struct folderpink_call {
 struct folderpink_told {
     size_t count;     /* how many bytes it wrote at the start of the output */
     size_t entry;     /* the connection, where named is set, else 0 */
+    uint64_t age;     /* how old the shown value is, in ticks, where aged is set, else 0 */
     uint8_t named;    /* a flag, 0 or 1 */
     uint8_t number;   /* one of folderpink_number */
     uint8_t failsafe; /* 1: a show without a value, its bytes are zeros; else 0 */
+    uint8_t aged;     /* 1: a done show of a value; else 0 */
 };
 
 /*
@@ -364,6 +367,9 @@ struct folderpink_told folderpink_stop(struct folderpink_call *call,
 /*
  * Writes the last value accepted in this Refresh, 4 bytes a word; or, with none or outside
  * Refresh, zeros of the same width and the mark failsafe.
+ *
+ * The age of a value is told with it, in ticks of 128 us, and is at most A + I. At a slave it is
+ * the true age or up to R above; at a master the true age or up to R below: to be sure, add R.
  */
 struct folderpink_told folderpink_show(struct folderpink_call *call,
                                        struct folderpink_record *records, size_t records_length,
@@ -411,7 +417,7 @@ uint8_t folderpink_check_frame(const uint8_t *bytes, size_t length);
 
 FOLDERPINK_LAYOUT(sizeof(size_t) == 8);
 
-FOLDERPINK_LAYOUT(sizeof(struct folderpink_stored) == 88);
+FOLDERPINK_LAYOUT(sizeof(struct folderpink_stored) == 96);
 FOLDERPINK_LAYOUT(FOLDERPINK_ALIGN(struct folderpink_stored) == 8);
 FOLDERPINK_LAYOUT(offsetof(struct folderpink_stored, since) == 0);
 FOLDERPINK_LAYOUT(offsetof(struct folderpink_stored, interval) == 8);
@@ -428,23 +434,24 @@ FOLDERPINK_LAYOUT(offsetof(struct folderpink_stored, accepted) == 40);
 FOLDERPINK_LAYOUT(offsetof(struct folderpink_stored, asked) == 48);
 FOLDERPINK_LAYOUT(offsetof(struct folderpink_stored, measured) == 56);
 FOLDERPINK_LAYOUT(offsetof(struct folderpink_stored, offset) == 64);
-FOLDERPINK_LAYOUT(offsetof(struct folderpink_stored, hassent) == 72);
-FOLDERPINK_LAYOUT(offsetof(struct folderpink_stored, hasaccepted) == 73);
-FOLDERPINK_LAYOUT(offsetof(struct folderpink_stored, hasasked) == 74);
-FOLDERPINK_LAYOUT(offsetof(struct folderpink_stored, requests) == 75);
-FOLDERPINK_LAYOUT(offsetof(struct folderpink_stored, queue) == 76);
-FOLDERPINK_LAYOUT(offsetof(struct folderpink_stored, invoked) == 77);
-FOLDERPINK_LAYOUT(offsetof(struct folderpink_stored, notready) == 78);
-FOLDERPINK_LAYOUT(offsetof(struct folderpink_stored, words) == 79);
-FOLDERPINK_LAYOUT(offsetof(struct folderpink_stored, errorinfo) == 80);
-FOLDERPINK_LAYOUT(offsetof(struct folderpink_stored, taken) == 81);
+FOLDERPINK_LAYOUT(offsetof(struct folderpink_stored, valueage) == 72);
+FOLDERPINK_LAYOUT(offsetof(struct folderpink_stored, hassent) == 80);
+FOLDERPINK_LAYOUT(offsetof(struct folderpink_stored, hasaccepted) == 81);
+FOLDERPINK_LAYOUT(offsetof(struct folderpink_stored, hasasked) == 82);
+FOLDERPINK_LAYOUT(offsetof(struct folderpink_stored, requests) == 83);
+FOLDERPINK_LAYOUT(offsetof(struct folderpink_stored, queue) == 84);
+FOLDERPINK_LAYOUT(offsetof(struct folderpink_stored, invoked) == 85);
+FOLDERPINK_LAYOUT(offsetof(struct folderpink_stored, notready) == 86);
+FOLDERPINK_LAYOUT(offsetof(struct folderpink_stored, words) == 87);
+FOLDERPINK_LAYOUT(offsetof(struct folderpink_stored, errorinfo) == 88);
+FOLDERPINK_LAYOUT(offsetof(struct folderpink_stored, taken) == 89);
 
-FOLDERPINK_LAYOUT(sizeof(struct folderpink_record) == 344);
+FOLDERPINK_LAYOUT(sizeof(struct folderpink_record) == 352);
 FOLDERPINK_LAYOUT(FOLDERPINK_ALIGN(struct folderpink_record) == 8);
 FOLDERPINK_LAYOUT(offsetof(struct folderpink_record, stored) == 0);
-FOLDERPINK_LAYOUT(offsetof(struct folderpink_record, value) == 88);
-FOLDERPINK_LAYOUT(offsetof(struct folderpink_record, words) == 188);
-FOLDERPINK_LAYOUT(offsetof(struct folderpink_record, errorinfo) == 288);
+FOLDERPINK_LAYOUT(offsetof(struct folderpink_record, value) == 96);
+FOLDERPINK_LAYOUT(offsetof(struct folderpink_record, words) == 196);
+FOLDERPINK_LAYOUT(offsetof(struct folderpink_record, errorinfo) == 296);
 
 FOLDERPINK_LAYOUT(sizeof(struct folderpink_gateway) == 16);
 FOLDERPINK_LAYOUT(FOLDERPINK_ALIGN(struct folderpink_gateway) == 8);
@@ -459,13 +466,15 @@ FOLDERPINK_LAYOUT(offsetof(struct folderpink_call, entry) == 24);
 FOLDERPINK_LAYOUT(offsetof(struct folderpink_call, notready) == 32);
 FOLDERPINK_LAYOUT(offsetof(struct folderpink_call, word) == 36);
 
-FOLDERPINK_LAYOUT(sizeof(struct folderpink_told) == 24);
+FOLDERPINK_LAYOUT(sizeof(struct folderpink_told) == 32);
 FOLDERPINK_LAYOUT(FOLDERPINK_ALIGN(struct folderpink_told) == 8);
 FOLDERPINK_LAYOUT(offsetof(struct folderpink_told, count) == 0);
 FOLDERPINK_LAYOUT(offsetof(struct folderpink_told, entry) == 8);
-FOLDERPINK_LAYOUT(offsetof(struct folderpink_told, named) == 16);
-FOLDERPINK_LAYOUT(offsetof(struct folderpink_told, number) == 17);
-FOLDERPINK_LAYOUT(offsetof(struct folderpink_told, failsafe) == 18);
+FOLDERPINK_LAYOUT(offsetof(struct folderpink_told, age) == 16);
+FOLDERPINK_LAYOUT(offsetof(struct folderpink_told, named) == 24);
+FOLDERPINK_LAYOUT(offsetof(struct folderpink_told, number) == 25);
+FOLDERPINK_LAYOUT(offsetof(struct folderpink_told, failsafe) == 26);
+FOLDERPINK_LAYOUT(offsetof(struct folderpink_told, aged) == 27);
 
 #undef FOLDERPINK_LAYOUT
 #undef FOLDERPINK_ALIGN

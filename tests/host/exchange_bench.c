@@ -44,6 +44,7 @@ struct answer {
     uint8_t number;
     size_t count;
     bool fail_safe;
+    uint64_t age;
 };
 
 /* The calls that an exchange needs, on the gateway of either end. */
@@ -95,7 +96,7 @@ INLINE struct folderpink_call *product_call(enum end end, uint64_t clock, size_t
 
 INLINE struct answer product_answer(struct folderpink_told told)
 {
-    return (struct answer){told.number, told.count, told.failsafe != 0};
+    return (struct answer){told.number, told.count, told.failsafe != 0, told.age};
 }
 
 static void product_load(enum end end, size_t connections, const uint32_t *list)
@@ -149,7 +150,7 @@ static struct reference_gateway reference_ends[2];
 
 INLINE struct answer reference_answer(struct reference_called called)
 {
-    return (struct answer){called.answer, called.count, called.fail_safe};
+    return (struct answer){called.answer, called.count, called.fail_safe, called.age};
 }
 
 static void load_reference(enum end end, size_t connections, const uint32_t *list)
@@ -244,14 +245,14 @@ static void set_up(const struct library *library, struct line *line, size_t conn
     }
 }
 
-/* Counts a value that was shown; the sum takes its first word and the 25th. */
+/* Counts a value that was shown; the sum takes its first word, the 25th and its age. */
 INLINE void count_shown(struct line *line, struct answer answer)
 {
     if (answer.number == FOLDERPINK_DONE && !answer.fail_safe) {
         line->shown++;
     }
-    line->sum =
-        31 * (line->sum & 0xFFFFFFFFu) + get_word(line->output) + get_word(line->output + 96);
+    line->sum = 31 * (line->sum & 0xFFFFFFFFu) + get_word(line->output) +
+                get_word(line->output + 96) + answer.age;
 }
 
 /* One exchange: the master sends, the slave takes and shows; then the other way. */

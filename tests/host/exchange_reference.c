@@ -28,7 +28,7 @@ struct fields {
 static struct reference_called gives(uint8_t answer, int entry, size_t count)
 {
     return (struct reference_called){
-        .answer = answer, .entry = entry, .count = count, .fail_safe = false};
+        .answer = answer, .entry = entry, .count = count, .fail_safe = false, .age = 0};
 }
 
 /* ---- Time ---- */
@@ -337,6 +337,7 @@ static struct reference_called take_refresh(struct reference_record *record, int
                                             size_t length)
 {
     const uint64_t age = (master_time(record, clock) - stamp) % STAMP_SPAN;
+    const uint64_t counted = age >= STAMP_HALF ? 0 : age;
     const uint32_t allowance = record->slave ? 0 : record->round_trip;
 
     if (record->state != FOLDERPINK_REFRESH) {
@@ -351,13 +352,14 @@ static struct reference_called take_refresh(struct reference_record *record, int
     if (age >= STAMP_HALF && STAMP_SPAN - age > allowance) {
         return gives(FOLDERPINK_AHEAD, entry, 0);
     }
-    if (age < STAMP_HALF && age > record->age) {
+    if (counted > record->age) {
         end(record);
         return gives(FOLDERPINK_LATE, entry, 0);
     }
     record->since = clock;
     record->accepted = at(stamp);
     record->taken = true;
+    record->value_age = counted;
     memcpy(record->value, data, length);
     memset(record->value + length, 0, FOLDERPINK_VALUE_MAX - length);
     return gives(FOLDERPINK_DONE, entry, 0);
@@ -542,6 +544,7 @@ struct reference_called reference_show(struct reference_gateway *gateway, uint64
         memset(out, 0, called.count);
     } else {
         memcpy(out, record->value, called.count);
+        called.age = record->value_age + (clock - record->since);
     }
     return called;
 }

@@ -35,6 +35,7 @@ struct reference_record {
     uint64_t offset;
     uint8_t requests;
     bool taken;
+    uint64_t value_age;
     uint8_t value[FOLDERPINK_VALUE_MAX];
 };
 
@@ -52,6 +53,7 @@ struct reference_called {
     int entry;
     size_t count;
     bool fail_safe;
+    uint64_t age; /* of the shown value; 0 without one */
 };
 
 void reference_load(struct reference_gateway *gateway, struct reference_record *records,

@@ -356,7 +356,11 @@ static void print_told(const struct folderpink_told *told)
     for (size_t i = 0; i < told->count && i < sizeof output; i++) {
         printf("%02x", output[i]);
     }
-    printf("%s%s\n", told->count == 0 ? "-" : "", is_dirty(told->count) ? " DIRTY" : "");
+    printf("%s", told->count == 0 ? "-" : "");
+    if (told->aged) {
+        printf(" %" PRIu64, told->age);
+    }
+    printf("%s\n", is_dirty(told->count) ? " DIRTY" : "");
 }
 
 /* Makes the call on a painted stack, and prints what it answered. */

@@ -15,17 +15,18 @@ use Rattle.frame.specs.Control.{is}
 use Rattle.frame.specs.Reading.{readingOf}
 use Rattle.endpoint.specs.declared.Settings.{Settings}
 use Rattle.endpoint.specs.Endpoint.{Endpoint}
+use Rattle.endpoint.specs.declared.Age.the-variants.{None, Ticks}
 use Rattle.endpoint.specs.declared.Answer.{Answer}
 use Rattle.endpoint.specs.Answers.{isDone}
-use Rattle.endpoint.specs.Time.{isExpired, afterTick}
+use Rattle.endpoint.specs.Time.{isExpired, heldAge, afterTick}
 use Rattle.steps.specs.Frames as W
-use Rattle.steps.specs.Calls.{Outcome, isFailSafe, shownOf}
+use Rattle.steps.specs.Calls.{Outcome, isFailSafe, shownOf, shownAge}
 use Rattle.steps.specs.Steps as S
 use Rattle.steps.proofs.CallLaws.{step-laws}
 use Rattle.steps.proofs.Keeps.{bcase}
 use Rattle.records.specs.Records.{recordOf}
 use Rattle.gateway.specs.Tables.{Lent, endpointAt, placeOf, isReading, clockStep, afterClock}
-use Rattle.gateway.specs.Calls.{Entry, Result, result, actedOf, shownIn}
+use Rattle.gateway.specs.Calls.{Entry, Result, result, actedOf, shownIn, ticksIn}
 use Rattle.link.specs.Runs as L
 use Rattle.runs.specs.Steps.{Call, act, send, deliver, show, callIn}
 use Rattle.runs.specs.Bus.{onBus, isOf, isRefreshIn, isFrameOf, isRefreshOf}
@@ -61,9 +62,11 @@ show-call slave m e t =
       ap (λ (o : Outcome). L.logged slave m S.show (o .writes)) (call-timely e t S.show x),
     ))
 
-flip : (b : Bool) (x : L.Show) → cond {A = List L.Show} (not b) (x ∷ []) [] ≡ cond b [] (x ∷ [])
-flip true x = refl
-flip false x = refl
+-- a value is shown with its age
+flip : (b : Bool) (x : ℕ → L.Show) (age : ℕ)
+    → cond {A = List L.Show} (not b) (x (ticksIn (cond b None (Ticks age))) ∷ []) [] ≡ cond b [] (x age ∷ [])
+flip true x age = refl
+flip false x age = refl
 
 module _ (cid : ℕ) (slave : Bool) (m : ℕ) (d₀ : Lent) (n : ℕ) (T : Table d₀ cid n) (d : Lent) (same : Like d d₀)
     (t room : ℕ) (reading : isReading (d .gateway) t ≡ true) (log : List L.Sent) (good : AllGood cid log) (took : ℕ)
@@ -104,7 +107,7 @@ module _ (cid : ℕ) (slave : Bool) (m : ℕ) (d₀ : Lent) (n : ℕ) (T : Table
     took-none (show k) = refl
 
     nowhere : {c : Call} (a : Answer) (x : Entry) → A.Still c a
-        → callIn d t room c ≡ result a x W.nothing false (afterClock t d) → Match c
+        → callIn d t room c ≡ result a x W.nothing (afterClock t d) → Match c
     nowhere {c = c} a x s q =
         only-clock cid slave m d n t room log took c whole counted
         (ap (λ (r : Result). r .lent) q ∙ clocked d t reading whole)
@@ -112,7 +115,7 @@ module _ (cid : ℕ) (slave : Bool) (m : ℕ) (d₀ : Lent) (n : ℕ) (T : Table
         (ap (showsValue cid d c) q ∙ silent s)
         (ap (λ (r : Result). tookBy cid (toLog log) c (isDone (r .answer)) took) q ∙ none s)
       where
-        silent : {c : Call} → A.Still c a → showsValue cid d c (result a x W.nothing false (afterClock t d)) ≡ false
+        silent : {c : Call} → A.Still c a → showsValue cid d c (result a x W.nothing (afterClock t d)) ≡ false
         silent {c = c} (A.refused h) = not-done c _ h
         silent (A.empty z) = refl
 
@@ -137,7 +140,7 @@ module _ (cid : ℕ) (slave : Bool) (m : ℕ) (d₀ : Lent) (n : ℕ) (T : Table
     shows-own q =
         let e = endpointAt d n in
         let x = afterTick e t in
-        let y = L.shown slave m (shownOf x) took (length log) in
+        let y : ℕ → L.Show = λ age. L.shown slave m (shownOf x) age took (length log) in
         let c = show-call slave m e t in
         let v : showsValue cid d (show n) (shownIn x t n d) ≡ not (isFailSafe x) =
         ap (λ (b : Bool). b && (true && not (isFailSafe x))) (eq-eqb (placeOf cid d) n the-entry) in
@@ -148,8 +151,8 @@ module _ (cid : ℕ) (slave : Bool) (m : ℕ) (d₀ : Lent) (n : ℕ) (T : Table
               ∙ not-logged cid slave m (show n) (W.value (shownOf x)) (empty cid) ∙ sym (ap toLog (c .1));
           good = subst (AllGood cid) (sym (c .1)) no-more;
           shows = ap (shownBy cid slave d m took (length log) (show n)) q
-              ∙ ap (λ (b : Bool). cond {A = List L.Show} b (y ∷ []) []) v
-              ∙ flip (isFailSafe x) y ∙ sym (ap (L.shownBy slave m took (length log) S.show) (c .0));
+              ∙ ap (λ (b : Bool). cond {A = List L.Show} b (y (ticksIn (shownAge x t)) ∷ []) []) v
+              ∙ flip (isFailSafe x) y (heldAge x t) ∙ sym (ap (L.shownBy slave m t took (length log) S.show) (c .0));
           takes = refl;
           may = refl;
           like = subst (λ (r : Result). Like (r .lent) d) (sym q) (like-tick d t);
@@ -222,7 +225,7 @@ module _ (cid : ℕ) (slave : Bool) (m : ℕ) (d₀ : Lent) (n : ℕ) (T : Table
     no-show (A.delivers s f from to k i h) r = refl
 
     no-show-by : {c : Call} {by : S.Call} {k : ℕ} → A.For d c by k → (x : Endpoint)
-        → L.shownBy slave m took (length log) by x ≡ []
+        → L.shownBy slave m t took (length log) by x ≡ []
     no-show-by (A.acts a k) x = refl
     no-show-by (A.sends k value) x = refl
     no-show-by (A.delivers s f from to k i h) x = refl

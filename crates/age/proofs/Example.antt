@@ -116,7 +116,7 @@ unfolding list cid slice connectionAt settingsAt isConnectionAt isNewAt areConne
 slave = record { done = refl; there = refl; role = refl }
 
 values : List L.Show
-values = L.shown true 5070 (1 ∷ 2 ∷ 3 ∷ 4 ∷ []) 17 17 ∷ L.shown false 5080 (5 ∷ 6 ∷ 7 ∷ 8 ∷ []) 18 18 ∷ []
+values = L.shown true 5070 (1 ∷ 2 ∷ 3 ∷ 4 ∷ []) 11 17 17 ∷ L.shown false 5080 (5 ∷ 6 ∷ 7 ∷ 8 ∷ []) 8 18 18 ∷ []
 
 -- both facts at once, so that the run is computed once
 abbrev told : Run → Bool × List L.Show

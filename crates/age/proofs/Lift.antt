@@ -12,7 +12,7 @@ use mathlib.Mathlib.Data.Bool.Basic.{and-elim-left as and-left, and-elim-right a
 use Rattle.endpoint.specs.declared.Settings.{Settings}
 use Rattle.endpoint.specs.Endpoint.{Endpoint}
 use Rattle.endpoint.specs.Answers.{isDone}
-use Rattle.endpoint.specs.Time.{lastReading}
+use Rattle.endpoint.specs.Time.{lastReading, boundOf}
 use Rattle.steps.specs.Steps as S
 use Rattle.steps.proofs.Dispatch.{cond-true, cond-false}
 use Rattle.steps.proofs.Keeps.{bcase}
@@ -56,7 +56,7 @@ record Both (cid : ℕ) (slave : Bool) (m : ℕ) (d₀ : Lent) (n : ℕ) (d : Le
       (L.logged slave m by (S.callOf e t by .writes))
   good : AllGood cid (L.logged slave m by (S.callOf e t by .writes))
   shows : shownBy cid slave d m took (length sent) c (callIn d t room c)
-      ≡ L.shownBy slave m took′ (length log) by (S.callOf e t by .endpoint)
+      ≡ L.shownBy slave m t took′ (length log) by (S.callOf e t by .endpoint)
   may : L.mayDeliver log by ≡ true
 
 one-step : (cid : ℕ) (slave : Bool) (m : ℕ) (d₀ : Lent) (n : ℕ) → Table d₀ cid n
@@ -266,19 +266,18 @@ module _ (wm ws : List ℕ) (rm rs : List Record) (cid : ℕ) (hm : Holds wm rm 
     longs : length (x .log) ≡ length (l .log)
     longs = sym (toLog-length (x .log)) ∙ ap length (sym (S .log))
 
-    sends : (y : L.Show) (bound k : ℕ) → k < length (x .log) → F.ItsSend bound y (L.sentAt (x .log) k)
-        → ItsSend cid bound y (sentAt (l .log) k)
+    sends : (y : L.Show) (s : Settings) (r k : ℕ) → k < length (x .log) → F.ItsSend s r y (L.sentAt (x .log) k)
+        → ItsSend cid s r y (sentAt (l .log) k)
     unfolding toSent
-    sends y bound k h w =
+    sends y s r k h w =
         let g = good-at cid (S .good) k h in
         let e = L.sentAt (x .log) k in
-        subst (ItsSend cid bound y) (sym (ap (λ (s : List Sent). sentAt s k) (S .log) ∙ sent-at (x .log) k h)) (record {
+        subst (ItsSend cid s r y) (sym (ap (λ (z : List Sent). sentAt z k) (S .log) ∙ sent-at (x .log) k h)) (record {
           other = w .other;
           refresh = refresh-of cid (e .fields) (e .body) (g .readable)
               ∙ both (eq-eqb (e .fields .connection) cid (g .has)) (w .refresh);
           value = w .value;
-          before = w .before;
-          young = omega arith;
+          aged = w .aged;
         })
 
     fresh : Fresh cid sm ss l
@@ -289,10 +288,10 @@ module _ (wm ws : List ℕ) (rm rs : List Record) (cid : ℕ) (hm : Holds wm rm 
           (λ h. let r = A .there i h in
           (r .0, r .1, subst (λ (n : ℕ). L.showAt (x .shows) i .written ≤ n) longs (r .2)));
       its-send = λ i k. subst (λ (z : List L.Show). i < length z → L.showAt z i .sent ≡ suc k
-          → ItsSend cid (F.boundOf (cond (L.showAt z i .slave) ss sm)) (L.showAt z i) (sentAt (l .log) k))
+          → ItsSend cid (cond (L.showAt z i .slave) ss sm) (sm .roundtrip) (L.showAt z i) (sentAt (l .log) k))
           (sym (S .shows))
           (λ h e. let r = A .there i h in let n : k < length (x .log) = let a = r .1 in let b = r .2 in omega arith in
-          sends (L.showAt (x .shows) i) _ k n (A .its-send i k h e));
+          sends (L.showAt (x .shows) i) _ _ k n (A .its-send i k h e));
       in-order = λ i j a. subst (λ (z : List L.Show). j < length z → L.showAt z i .slave ≡ L.showAt z j .slave
           → L.showAt z i .sent ≤ L.showAt z j .sent) (sym (S .shows)) (λ h e. A .in-order i j a h e);
     }
@@ -319,8 +318,8 @@ silence wm ws rm rs cid hm hs c vs slave last h quiet i k e =
     let w = A .its-send i j k q in
     let n : j < length (l .log) = let a = r .1 in let b = r .2 in omega arith in
     let z = quiet j n (w .other ∙ ap not e) (w .refresh) in
-    let b : F.boundOf (cond (y .slave) (settingsIn hs) (settingsIn hm)) ≡ F.boundOf
+    let b : boundOf (cond (y .slave) (settingsIn hs) (settingsIn hm)) ≡ boundOf
     (cond slave (settingsIn hs) (settingsIn hm)) =
-    ap (λ (b : Bool). F.boundOf (cond b (settingsIn hs) (settingsIn hm))) e in
-    let v = w .young in
+    ap (λ (b : Bool). boundOf (cond b (settingsIn hs) (settingsIn hm))) e in
+    let v = w .aged .young in
     omega arith

@@ -18,7 +18,7 @@ use Rattle.steps.specs.Steps as S
 use Rattle.steps.specs.Laws.{Carries}
 use Rattle.steps.proofs.Dispatch.{cond-true, cond-false}
 use Rattle.gateway.specs.Tables.{Lent, endpointAt, isReading, clockStep, afterClock}
-use Rattle.gateway.specs.Calls.{Result}
+use Rattle.gateway.specs.Calls.{Result, ticksIn}
 use Rattle.link.specs.Runs as L
 use Rattle.runs.specs.Steps.{Call, callIn}
 use Rattle.runs.specs.Bus.{onBus, isFrameOf}
@@ -75,7 +75,7 @@ pub record Matches (cid : ℕ) (slave : Bool) (m : ℕ) (d : Lent) (n t room : �
       ≡ toLog (L.logged slave m by (S.callOf (endpointAt d n) t by .writes))
   pub good : AllGood cid (L.logged slave m by (S.callOf (endpointAt d n) t by .writes))
   pub shows : shownBy cid slave d m took (length log) call (callIn d t room call)
-      ≡ L.shownBy slave m took (length log) by (S.callOf (endpointAt d n) t by .endpoint)
+      ≡ L.shownBy slave m t took (length log) by (S.callOf (endpointAt d n) t by .endpoint)
   pub takes : tookBy cid (toLog log) call (isDone (callIn d t room call .answer)) took
       ≡ L.tookBy log by (S.callOf (endpointAt d n) t by .answer) took
   pub may : L.mayDeliver log by ≡ true
@@ -92,7 +92,7 @@ module _ (cid : ℕ) (slave : Bool) (m : ℕ) (d : Lent) (n t room : ℕ) (log :
   pub not-shown : (call : Call) (r : Result) → showsValue cid d call r ≡ false
       → shownBy cid slave d m took (length log) call r ≡ []
   not-shown call r h =
-      cond-false (showsValue cid d call r) (L.shown slave m (bytesOf (r .writes)) took (length log) ∷ []) [] h
+      cond-false (showsValue cid d call r) (L.shown slave m (bytesOf (r .writes)) (ticksIn (r .age)) took (length log) ∷ []) [] h
 
   -- the endpoint took the clock step only, and nothing of the CID was written, shown or taken
   pub idle : (call : Call)

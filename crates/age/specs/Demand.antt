@@ -1,5 +1,5 @@
 -- Demand 3: for two gateways just loaded that hold one CID, every value shown has its send, in order, and is not too
--- old.
+-- old; and the age that it is shown with is close to the true one (document 02, note 7).
 use mathlib.Core.Path.{_≡_}
 use mathlib.Core.Bool.{Bool, true, false, not, cond}
 use mathlib.Core.List.{List}
@@ -8,11 +8,12 @@ use Prim.Native.Nat.{ℕ, suc, _+_, _≤_, _<_}
 use lib.ListN.{length}
 use Rattle.endpoint.specs.declared.Settings.{Settings}
 use Rattle.endpoint.specs.declared.Answer.the-variants.{Done}
+use Rattle.endpoint.specs.Time.{boundOf}
 use Rattle.records.specs.declared.Record.{Record}
 use Rattle.gateway.specs.Tables.{Lent, endpointAt, isEntry, placeOf}
 use Rattle.gateway.specs.Loading.{loadedOf}
 use Rattle.link.specs.Runs.{Clocks, Show, showAt}
-use Rattle.link.specs.Fresh.{boundOf}
+use Rattle.link.specs.Fresh.{Aged}
 use Rattle.runs.specs.Bus.{isRefreshOf}
 use Rattle.age.specs.Runs.{Event, Sent, sentAt, Run, afterAll, begun}
 
@@ -30,13 +31,13 @@ abbrev pub settingsIn : {list : List ℕ} {records : List Record} {cid : ℕ} {s
     → Holds list records cid slave → Settings
 settingsIn {list = list} {records = records} {cid = cid} h = settingsFor cid (loadedOf list records .lent)
 
--- the send of a show: by the other end, an S-Refresh of the CID, lent the value shown, and not too old
-pub record ItsSend (cid bound : ℕ) (x : Show) (w : Sent) : Type 0 where
+-- the send of a show: by the other end, an S-Refresh of the CID, lent the value shown, and as old as Aged says; s are the
+-- settings of the end that shows it, and R the master's
+pub record ItsSend (cid : ℕ) (s : Settings) (roundtrip : ℕ) (x : Show) (w : Sent) : Type 0 where
   pub other : w .slave ≡ not (x .slave)
   pub refresh : isRefreshOf cid (w .bytes) ≡ true
   pub value : w .lent ≡ some (x .bytes)
-  pub before : w .moment ≤ x .moment
-  pub young : x .moment ≤ w .moment + bound
+  pub aged : Aged s roundtrip x (w .moment)
 
 -- the settings sm and ss are those of the two ends
 pub record Fresh (cid : ℕ) (sm ss : Settings) (l : Run) : Type 0 where
@@ -45,7 +46,7 @@ pub record Fresh (cid : ℕ) (sm ss : Settings) (l : Run) : Type 0 where
       → (1 ≤ showAt (l .shows) i .sent) × (showAt (l .shows) i .sent ≤ showAt (l .shows) i .written)
       × (showAt (l .shows) i .written ≤ length (l .log))
   pub its-send : (i k : ℕ) → i < length (l .shows) → showAt (l .shows) i .sent ≡ suc k
-      → ItsSend cid (boundOf (cond (showAt (l .shows) i .slave) ss sm)) (showAt (l .shows) i) (sentAt (l .log) k)
+      → ItsSend cid (cond (showAt (l .shows) i .slave) ss sm) (sm .roundtrip) (showAt (l .shows) i) (sentAt (l .log) k)
   -- a later show at the same end never has an earlier send
   pub in-order : (i j : ℕ) → i < j → j < length (l .shows) → showAt (l .shows) i .slave ≡ showAt (l .shows) j .slave
       → showAt (l .shows) i .sent ≤ showAt (l .shows) j .sent

@@ -10,7 +10,7 @@ use Rattle.words.specs.Bytes.{same}
 use Rattle.endpoint.specs.Answers.{isDone}
 use Rattle.steps.specs.Frames.{Written, bytesOf}
 use Rattle.gateway.specs.Tables.{Lent, placeOf, isReading}
-use Rattle.gateway.specs.Calls.{Result}
+use Rattle.gateway.specs.Calls.{Result, ticksIn}
 use Rattle.runs.specs.Steps.{Call, act, send, deliver, show, Step, load, call, callIn}
 use Rattle.runs.specs.Bus.{onBus, isFrameOf, isRefreshOf}
 use Rattle.link.specs.Runs.{Clocks, momentOf, Show, shown}
@@ -160,10 +160,10 @@ abbrev pub tookAfter : Bool → ℕ → Run → Bool → Call → Result → ℕ
 tookAfter end cid l slave c r =
     cond (Bool·beq end slave) (tookBy cid (l .log) c (isDone (r .answer)) (tookAt l end)) (tookAt l end)
 
--- the show: at which end, when, the bytes, that place, and how many frames had been written
+-- the show: at which end, when, the bytes, the age told, that place, and how many frames had been written
 abbrev pub shownBy : ℕ → Bool → Lent → ℕ → ℕ → ℕ → Call → Result → List Show
 shownBy cid slave d m took n c r =
-    cond (showsValue cid d c r) (shown slave m (bytesOf (r .writes)) took n ∷ []) []
+    cond (showsValue cid d c r) (shown slave m (bytesOf (r .writes)) (ticksIn (r .age)) took n ∷ []) []
 
 -- ---- all of it, along the list
 -- a call at an end with its reading, and what it came to

@@ -11,7 +11,7 @@ use Rattle.steps.specs.Frames.{setupData, handedOver, recordIn}
 use Rattle.settings.specs.Lists.{connectionAt, settingsAt, isConnectionAt, isNewAt, areConnections, isList}
 use Rattle.gateway.specs.Tables.{endpointAt, placeOf, clockStep}
 use Rattle.cases.specs.Cases.{Case, mainCases, edges, emptyCycles, busyReplies, requestLimits, results, userResults}
-use Rattle.cases.specs.Cases.{commands, commandReplies, lentSlices, loadings, fullTable, connections, loadingAll, Hold}
+use Rattle.cases.specs.Cases.{commands, commandReplies, agesAtSlave, agesAtMaster, noAges, lentSlices, loadings, fullTable, connections, loadingAll, Hold}
 use Rattle.cases.specs.ErrorRecords.{records, days, readings, writings, userRecords, queued, readReplies, writeReplies}
 use Rattle.cases.specs.Table.{CasesHold}
 use Rattle.errors.specs.Calendar.{daysOf, daysIn, isDate}
@@ -53,6 +53,18 @@ unfolding Hold commandReplies controlOf hasForm hasCheckWord fieldsIn readingOfC
     withCheckWord twice subBytes frameBytes bitStep bitSteps byteStep crcFrom crc setupData handedOver settingsAt
     endpointAt placeOf clockStep
 command-replies-hold = refl
+
+slave-ages-hold : Hold agesAtSlave
+unfolding Hold agesAtSlave setupData settingsAt
+slave-ages-hold = refl
+
+master-ages-hold : Hold agesAtMaster
+unfolding Hold agesAtMaster setupData settingsAt
+master-ages-hold = refl
+
+no-ages-hold : Hold noAges
+unfolding Hold noAges setupData settingsAt
+no-ages-hold = refl
 
 slices-hold : Hold lentSlices
 unfolding Hold lentSlices controlOf hasForm hasCheckWord fieldsIn readingOfCopies readingOf headBytes withCheckWord
@@ -129,7 +141,10 @@ main-hold =
     (both _ _ results-hold
     (both _ _ user-results-hold
     (both _ _ commands-hold
-    (both _ _ command-replies-hold (both _ _ slices-hold (both _ _ loadings-hold full-holds)))))))))
+    (both _ _ command-replies-hold
+    (both _ _ slave-ages-hold
+    (both _ _ master-ages-hold
+    (both _ _ no-ages-hold (both _ _ slices-hold (both _ _ loadings-hold full-holds))))))))))))
 
 pub cases-hold : CasesHold
 cases-hold =

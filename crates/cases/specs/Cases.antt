@@ -23,16 +23,19 @@ use Rattle.endpoint.specs.declared.Timestamp.the-variants.{Never, At}
 use Rattle.endpoint.specs.declared.Pending.{Pending}
 use Rattle.endpoint.specs.declared.Pending.the-variants.{Nothing, Asked}
 use Rattle.endpoint.specs.declared.Queue.the-variants.{Empty}
+use Rattle.endpoint.specs.declared.Age.{Age}
+use Rattle.endpoint.specs.declared.Age.the-variants.{None, Ticks}
 use Rattle.endpoint.specs.Endpoint.{Endpoint}
 use Rattle.endpoint.specs.Answers.{numberOf}
 use Rattle.endpoint.specs.Table.{rowOf}
+use Rattle.endpoint.specs.Time.{afterTick}
 use Rattle.endpoint.specs.Updates.{inState, timedFrom, withTimestamps, withSetup, withPending, withRequests}
 use Rattle.endpoint.specs.Updates.{withNotReady}
 use Rattle.endpoint.specs.TCode.{tCodeOf, ccOf, slaveTime}
 use Rattle.transitions.specs.ByCall.{freshOf}
 use Rattle.steps.specs.Frames.{Written, nothing, frame, value, bytesOf, setupData, sentFields, ackFields}
 use Rattle.steps.specs.Calls.{Outcome, startOf, restartOf, setResultOf, clearResultOf, commandData, invokeOf, sendOf}
-use Rattle.steps.specs.Calls.{stopOf}
+use Rattle.steps.specs.Calls.{stopOf, isFailSafe, shownOf, shownAge}
 use Rattle.steps.specs.Deliveries.{deliverOf}
 use Rattle.settings.specs.Words.{settingsOf}
 use Rattle.settings.specs.Lists.{settingsAt}
@@ -95,6 +98,11 @@ lastIn g = g .last
 
 abbrev markOf : Result → ℕ
 markOf r = cond (r .failsafe) 1 0
+
+-- the age that a show gives, counted from 1
+abbrev agedIn : Age → ℕ
+agedIn None = 0
+agedIn (Ticks n) = suc n
 
 -- of what a call writes: CTRL and the timestamp
 abbrev controlIn : Written → ℕ
@@ -171,9 +179,10 @@ abbrev refreshed : Endpoint → ℕ → ℕ → ℕ → Outcome
 refreshed e t stamp w =
     deliverOf e t (sentFields K.Refresh (not (e .settings .slave)) cid stamp 0) (wordBytes w)
 
--- the state, the timer's start, the last timestamp accepted and the word held
+-- the state, the timer's start, the last timestamp accepted, the age then of the value held, and its word
 abbrev held : Endpoint → List ℕ
-held e = rowOf (e .state) ∷ e .since ∷ stampOf (e .timestamps .accepted) ∷ wordAt (e .value .bytes) 0 ∷ []
+held e =
+    rowOf (e .state) ∷ e .since ∷ stampOf (e .timestamps .accepted) ∷ e .value .age ∷ wordAt (e .value .bytes) 0 ∷ []
 
 -- its number; what it leaves
 abbrev taking : Outcome → List ℕ
@@ -210,12 +219,12 @@ unloaded = lent (loadedWith 0) []
 abbrev stateIn : Result → ℕ
 stateIn r = rowOf (endpointAt (r .lent) 0 .state)
 
--- a show there: its number, entry, count, mark and the word shown; the state that it leaves
+-- a show there: its number, entry, count, mark, the word shown and its age; the state that it leaves
 abbrev showing : ℕ → ℕ → List ℕ
 showing t room =
     let r = showIn shownFrom t room 0 in
     let s = bytesOf (r .writes) in
-    numberOf (r .answer) ∷ ordinalOf (r .entry) ∷ length s ∷ markOf r ∷ wordAt s 0 ∷ stateIn r ∷ []
+    numberOf (r .answer) ∷ ordinalOf (r .entry) ∷ length s ∷ markOf r ∷ wordAt s 0 ∷ agedIn (r .age) ∷ stateIn r ∷ []
 
 -- a delivery of these bytes: its number, entry and count; the last reading and the state that it leaves
 abbrev delivering : Lent → ℕ → ℕ → List ℕ → List ℕ
@@ -262,16 +271,16 @@ arrived = frameBytes (sentFields K.Refresh false cid 1220 0) (wordBytes 0x090A0B
 
 -- what is held of each record: as it was; with that S-Refresh taken at 6,240; ended; blank
 abbrev asItWas : List ℕ
-asItWas = rowOf Refresh ∷ 6230 ∷ 1200 ∷ 0x01020304 ∷ []
+asItWas = rowOf Refresh ∷ 6230 ∷ 1200 ∷ 50 ∷ 0x01020304 ∷ []
 
 abbrev renewed : List ℕ
-renewed = rowOf Refresh ∷ 6240 ∷ 1220 ∷ 0x090A0B0C ∷ []
+renewed = rowOf Refresh ∷ 6240 ∷ 1220 ∷ 40 ∷ 0x090A0B0C ∷ []
 
 abbrev ended : List ℕ
-ended = rowOf Terminate ∷ 6230 ∷ 1200 ∷ 0 ∷ []
+ended = rowOf Terminate ∷ 6230 ∷ 1200 ∷ 0 ∷ 0 ∷ []
 
 abbrev blank : List ℕ
-blank = rowOf Close ∷ 0 ∷ 0 ∷ 0 ∷ []
+blank = rowOf Close ∷ 0 ∷ 0 ∷ 0 ∷ 0 ∷ []
 
 -- nothing changed of one record of two
 abbrev unchanged : ℕ → List ℕ
@@ -342,6 +351,16 @@ performing o = replying o ++ (o .endpoint .words .count ∷ dataIn (o .writes))
 -- a gateway of this connection alone, its last reading 1,000
 abbrev pub alone : Endpoint → Lent
 alone e = lent (atClock 1000 (loadedWith 1)) (recordOf e ∷ [])
+
+-- what a show of this connection gives: the mark, the word shown and its age
+abbrev aging : Endpoint → ℕ → List ℕ
+aging e t =
+    let x = afterTick e t in
+    cond (isFailSafe x) 1 0 ∷ wordAt (shownOf x) 0 ∷ agedIn (shownAge x t) ∷ []
+
+-- the master in Refresh since 1,040 with A = 50 that takes the timestamp 1,120
+abbrev takenAtMaster : ℕ → Endpoint
+takenAtMaster t = refreshed (endpointIn masterSettings Refresh 1040 1030 0) t 1120 1 .endpoint
 
 -- the queue (0 nothing waits, 1 S-InvokeFunc does, 4 it is closed), how many words are handed over, and the first
 abbrev handed : Endpoint → List ℕ
@@ -438,18 +457,18 @@ edges =
     ∷ case (slaveTime 6100 281474976705676) 1120
     ∷ case (slaveTime 18446744073709551615 18446744073709551615) 281474976710654
     -- with R = 50 the master at 1,105 counts age 0; at 1,069 number 14, at 1,070 age 0; age 1 would be too late for it
-    ∷ row (taking (atMaster 1105)) (0 ∷ rowOf Refresh ∷ 1105 ∷ 1120 ∷ 1 ∷ [])
-    ∷ row (taking (atMaster 1069)) (14 ∷ rowOf Refresh ∷ 1040 ∷ 0 ∷ 0 ∷ [])
-    ∷ row (taking (atMaster 1070)) (0 ∷ rowOf Refresh ∷ 1070 ∷ 1120 ∷ 1 ∷ [])
-    ∷ row (taking (atMaster 1121)) (15 ∷ rowOf Terminate ∷ 1040 ∷ 0 ∷ 0 ∷ [])
+    ∷ row (taking (atMaster 1105)) (0 ∷ rowOf Refresh ∷ 1105 ∷ 1120 ∷ 0 ∷ 1 ∷ [])
+    ∷ row (taking (atMaster 1069)) (14 ∷ rowOf Refresh ∷ 1040 ∷ 0 ∷ 0 ∷ 0 ∷ [])
+    ∷ row (taking (atMaster 1070)) (0 ∷ rowOf Refresh ∷ 1070 ∷ 1120 ∷ 0 ∷ 1 ∷ [])
+    ∷ row (taking (atMaster 1121)) (15 ∷ rowOf Terminate ∷ 1040 ∷ 0 ∷ 0 ∷ 0 ∷ [])
     -- one S-Refresh accepted at 6,180; stamp 1,200 at 6,230 accepted, at 6,231 number 15
-    ∷ row (taking first) (0 ∷ rowOf Refresh ∷ 6180 ∷ 1195 ∷ 0x05060708 ∷ [])
-    ∷ row (taking (later 6230)) (0 ∷ rowOf Refresh ∷ 6230 ∷ 1200 ∷ 0x01020304 ∷ [])
-    ∷ row (taking (later 6231)) (15 ∷ rowOf Terminate ∷ 6180 ∷ 1195 ∷ 0 ∷ [])
+    ∷ row (taking first) (0 ∷ rowOf Refresh ∷ 6180 ∷ 1195 ∷ 5 ∷ 0x05060708 ∷ [])
+    ∷ row (taking (later 6230)) (0 ∷ rowOf Refresh ∷ 6230 ∷ 1200 ∷ 50 ∷ 0x01020304 ∷ [])
+    ∷ row (taking (later 6231)) (15 ∷ rowOf Terminate ∷ 6180 ∷ 1195 ∷ 0 ∷ 0 ∷ [])
     -- accepted at 6,230: shown at 6,330, fail-safe in a show at 6,331; to an output one byte short, neither
-    ∷ row (showing 6330 248) (0 ∷ 1 ∷ 4 ∷ 0 ∷ 0x01020304 ∷ rowOf Refresh ∷ [])
-    ∷ row (showing 6331 248) (0 ∷ 1 ∷ 4 ∷ 1 ∷ 0 ∷ rowOf Terminate ∷ [])
-    ∷ row (showing 6330 247) (2 ∷ 0 ∷ 0 ∷ 0 ∷ 0 ∷ rowOf Refresh ∷ [])
+    ∷ row (showing 6330 248) (0 ∷ 1 ∷ 4 ∷ 0 ∷ 0x01020304 ∷ 151 ∷ rowOf Refresh ∷ [])
+    ∷ row (showing 6331 248) (0 ∷ 1 ∷ 4 ∷ 1 ∷ 0 ∷ 0 ∷ rowOf Terminate ∷ [])
+    ∷ row (showing 6330 247) (2 ∷ 0 ∷ 0 ∷ 0 ∷ 0 ∷ 0 ∷ rowOf Refresh ∷ [])
     ∷ []
 
 -- ---- document 02, note 1
@@ -683,6 +702,37 @@ commandReplies =
     ∷ row (commanding (startOf (inState Close readyGone) 1060)) (0 ∷ 0 ∷ 0 ∷ rowOf Starting ∷ 0 ∷ 0 ∷ 0 ∷ [])
     ∷ []
 
+-- ---- note 7: the last number of a row is the age that is shown and 1 more, or 0 for none
+unfoldable pub agesAtSlave : List Case
+agesAtSlave =
+    -- 5 at acceptance at 6,180, and the ticks since
+    row (aging (first .endpoint) 6180) (0 ∷ 0x05060708 ∷ 6 ∷ [])
+    ∷ row (aging (first .endpoint) 6200) (0 ∷ 0x05060708 ∷ 26 ∷ [])
+    -- what it sends in between changes nothing
+    ∷ row (aging (sendOf (first .endpoint) 6190 word .endpoint) 6200) (0 ∷ 0x05060708 ∷ 26 ∷ [])
+    -- a later value has its own age, 50, which is A; shown for the last time it is A + I
+    ∷ row (aging (later 6230 .endpoint) 6230) (0 ∷ 0x01020304 ∷ 51 ∷ [])
+    ∷ row (aging (later 6230 .endpoint) 6330) (0 ∷ 0x01020304 ∷ 151 ∷ [])
+    ∷ []
+
+unfoldable pub agesAtMaster : List Case
+agesAtMaster =
+    -- ahead by 50 and by 15 counts 0; 10 behind counts 10
+    row (aging (takenAtMaster 1070) 1070) (0 ∷ 1 ∷ 1 ∷ [])
+    ∷ row (aging (takenAtMaster 1070) 1170) (0 ∷ 1 ∷ 101 ∷ [])
+    ∷ row (aging (takenAtMaster 1105) 1110) (0 ∷ 1 ∷ 6 ∷ [])
+    ∷ row (aging (takenAtMaster 1130) 1135) (0 ∷ 1 ∷ 16 ∷ [])
+    ∷ []
+
+unfoldable pub noAges : List Case
+noAges =
+    -- fail-safe shows have none: before the first value, after the last one's time, after an end and a restart
+    row (aging ready 6060) (1 ∷ 0 ∷ 0 ∷ [])
+    ∷ row (aging (later 6230 .endpoint) 6331) (1 ∷ 0 ∷ 0 ∷ [])
+    ∷ row (aging (stopOf (first .endpoint) 6190 .endpoint) 6200) (1 ∷ 0 ∷ 0 ∷ [])
+    ∷ row (aging (restartOf (stopOf (first .endpoint) 6190 .endpoint) .endpoint) 6200) (1 ∷ 0 ∷ 0 ∷ [])
+    ∷ []
+
 -- ---- note 11
 unfoldable pub lentSlices : List Case
 lentSlices =
@@ -747,7 +797,8 @@ fullTable = row (loadingAll 64) (0 ∷ 64 ∷ 0x013F803F ∷ []) ∷ []
 abbrev pub mainCases : List Case
 mainCases =
     edges ++ (emptyCycles ++ (busyReplies ++ (requestLimits
-    ++ (results ++ (userResults ++ (commands ++ (commandReplies ++ (lentSlices ++ (loadings ++ fullTable)))))))))
+    ++ (results ++ (userResults ++ (commands ++ (commandReplies ++ (agesAtSlave ++ (agesAtMaster
+    ++ (noAges ++ (lentSlices ++ (loadings ++ fullTable))))))))))))
 
 -- each row gives what the paper states
 unfoldable pub Hold : List Case → Type 0

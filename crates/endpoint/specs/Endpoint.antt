@@ -12,10 +12,15 @@ use Rattle.endpoint.specs.declared.Setup.{Setup}
 use Rattle.endpoint.specs.declared.Station.{Station}
 use Rattle.endpoint.specs.declared.Core.{Core}
 
--- the last value accepted in this Refresh, with zeros after it; the fail-safe value where there is none
+-- the last value accepted in this Refresh, with its age then, in ticks, and zeros after it; the fail-safe value, of age
+-- 0, where there is none
 pub record Value : Type 0 where
   pub taken : Bool
+  pub age : ℕ
   pub bytes : List ℕ
+
+abbrev pub valueOf : Bool → ℕ → List ℕ → Value
+valueOf taken age bytes = record { taken = taken; age = age; bytes = bytes }
 
 -- S-Data that its user has handed over, from the front of the bytes; 0 words where none is set
 pub record Words : Type 0 where
@@ -59,6 +64,7 @@ coreOf e = record {
   words = e .words .count;
   errorinfo = e .errorinfo .count;
   taken = e .value .taken;
+  valueage = e .value .age;
 }
 
 abbrev pub bare : Core → Endpoint
@@ -71,5 +77,5 @@ bare c = record {
   station = c .station;
   words = wordsOf (c .words) noBytes;
   errorinfo = wordsOf (c .errorinfo) noRecord;
-  value = record { taken = c .taken; bytes = noBytes };
+  value = valueOf (c .taken) (c .valueage) noBytes;
 }

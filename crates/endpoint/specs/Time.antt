@@ -1,6 +1,6 @@
 -- Clocks, timestamps and ages (document 01, "Clock and stamp" and "The steps"), and the clock step.
 use mathlib.Core.Path.{_≡_}
-use mathlib.Core.Bool.{Bool, true, false, _&&_, _||_, not, cond}
+use mathlib.Core.Bool.{Bool, true, false, _&&_, _||_, cond}
 use Prim.Native.Nat.{ℕ, _+_, _-_, _%_}
 use lib.Dec.{ltb, leb}
 use lib.ListN.{replicate}
@@ -10,8 +10,7 @@ use Rattle.endpoint.specs.declared.State.the-variants.{Refresh, Terminat
 use Rattle.endpoint.specs.declared.Queue.the-variants.{Empty}
 use Rattle.endpoint.specs.declared.Timestamp.{Timestamp}
 use Rattle.endpoint.specs.declared.Timestamp.the-variants.{Never, At}
-use Rattle.endpoint.specs.Endpoint.{Value}
-use Rattle.endpoint.specs.Endpoint.{Endpoint}
+use Rattle.endpoint.specs.Endpoint.{Value, Endpoint, valueOf}
 use Rattle.endpoint.specs.Table.{isState, isSetup}
 use Rattle.endpoint.specs.Updates.{inState, withQueue, holding}
 
@@ -59,9 +58,22 @@ isTooFarAhead age allowance = isAhead age && ltb allowance (span - age)
 abbrev pub allowanceOf : Settings → ℕ
 allowanceOf s = cond (s .slave) 0 (s .roundtrip)
 
--- older than A; ahead counts as age 0
+-- the ticks that an age comes to: ahead counts as 0
+abbrev pub countedAge : ℕ → ℕ
+countedAge age = cond (isAhead age) 0 age
+
+-- older than A
 abbrev pub isTooLate : ℕ → ℕ → Bool
-isTooLate age limit = not (isAhead age) && ltb limit age
+isTooLate age limit = ltb limit (countedAge age)
+
+-- how old the value held is at a clock reading: its age when it was accepted, which is where the timer starts, and the
+-- ticks since; in 64 bits
+abbrev pub heldAge : Endpoint → ℕ → ℕ
+heldAge e t = (e .value .age + (t - e .since)) % 18446744073709551616
+
+-- the bound on the age of a shown value at an end: A + I at a slave, A + I + R at a master
+abbrev pub boundOf : Settings → ℕ
+boundOf s = s .age + (s .interval + cond (s .slave) 0 (s .roundtrip))
 
 -- the slave's ts_offset from S-RefreshGO: stamp − OBL − s2
 abbrev pub offsetFrom : ℕ → ℕ → ℕ → ℕ
@@ -77,7 +89,7 @@ isExpired e t = isOver (e .state) (e .settings .roundtrip) (e .settings .interva
 
 -- no value is held: the fail-safe value
 abbrev pub noValue : Value
-noValue = record { taken = false; bytes = replicate 100 0 }
+noValue = valueOf false 0 (replicate 100 0)
 
 -- an endpoint that has taken no value holds the fail-safe value
 abbrev pub Tidy : Endpoint → Type 0

@@ -102,8 +102,15 @@ pub struct Core {
     // how many words the error record has that its user has handed over: a master's queued S-WriteErrorInfo, a station's
     // own record, 0 for none
     pub errorinfo: u8,
-    // whether a value was accepted in this Refresh
+    // whether a value was accepted in this Refresh, and its age then, in ticks; 0 where none was
     pub taken: bool,
+    pub valueage: u64,
+}
+
+// How old a value is that is shown, in ticks; of a fail-safe show none is told.
+pub enum Age {
+    None,
+    Ticks(u64),
 }
 
 // Why a call is refused: document 01's number and trade word stand beside each.

@@ -4,6 +4,7 @@ ghost use Prim.Native.Nat.{_-_};
 ghost use Rattle.endpoint.specs.Endpoint.{bare, coreOf};
 ghost use Rattle.endpoint.specs.Time.{minus, masterTime, isAbove, isTooFarAhead, allowanceOf, isTooLate};
 ghost use Rattle.endpoint.specs.Time.{offsetFrom, isOver, isExpired, endedOf, afterTick, timeOf, ageOf};
+ghost use Rattle.endpoint.specs.Time.{countedAge, heldAge, boundOf};
 use super::Core;
 use super::Queue;
 use super::Settings;
@@ -88,10 +89,35 @@ pub fn allowance(s: Settings) -> u32
     if s.slave { 0 } else { s.roundtrip }
 }
 
+// The ticks that an age comes to.
+pub fn counted_age(age: u64) -> u64
+    ensures { λ r. ⌜ r ≡ countedAge age ⌝ }
+{
+    if AHEAD <= age { 0 } else { age }
+}
+
 pub fn is_too_late(age: u64, limit: u32) -> bool
     ensures { λ r. ⌜ r ≡ isTooLate age limit ⌝ }
 {
-    !(AHEAD <= age) & ((limit as u64) < age)
+    (limit as u64) < counted_age(age)
+}
+
+// How old the value held is.
+pub fn held_age(e: Core, clock: u64) -> u64
+    ensures { λ r. ⌜ r ≡ heldAge (bare e) clock ⌝ }
+{
+    std::num::wrapping_add_u64(e.valueage, passed(clock, e.since))
+}
+
+// How old a shown value can be at an end.
+pub fn bound(s: Settings) -> u64
+    ensures { λ r. ⌜ r ≡ boundOf s ⌝ }
+{
+    let held = (s.age as u64) + (s.interval as u64);
+    if s.slave {
+        return held;
+    }
+    held + (s.roundtrip as u64)
 }
 
 // ts_offset from an S-RefreshGO.
@@ -128,6 +154,7 @@ pub fn ended(e: Core) -> Core
 {
     let mut next = in_state(State::Terminate, with_queue(Queue::Empty, e));
     next.taken = false;
+    next.valueage = 0;
     next
 }
 

@@ -27,6 +27,7 @@ pub fn in_state(state: State, e: Core) -> Core
         words: e.words,
         errorinfo: e.errorinfo,
         taken: e.taken,
+        valueage: e.valueage,
     }
 }
 

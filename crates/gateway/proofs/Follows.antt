@@ -28,7 +28,7 @@ use Rattle.endpoint.specs.Table.{isState, requestOf}
 use Rattle.endpoint.specs.Time.{isExpired, endedOf, afterTick}
 use Rattle.steps.specs.Frames.{nothing, bytesOf, showWidth}
 use Rattle.steps.specs.Frames.{paddedOf}
-use Rattle.steps.specs.Calls.{Outcome, isFailSafe, heldOr, shownOf}
+use Rattle.steps.specs.Calls.{Outcome, isFailSafe, heldOr, shownOf, shownAge}
 use Rattle.steps.specs.Says.{steppedOf, plainStep}
 use Rattle.steps.specs.Steps as S
 use Rattle.steps.specs.Values.{withBytes, isShow, handsWords, handsRecord}
@@ -257,6 +257,14 @@ module _ (r : Record) (u : ℕ) where
       go false = same-shown (bareOf (r .stored)) (r .value) (heldIn r)
           (λ h. sym (cond-true (isSet (r .stored .taken)) (r .value) noBytes h))
 
+  aged-read : shownAge raw u ≡ shownAge read u
+  aged-read = go (isExpired (endpointOf r) u)
+    where
+      go : (b : Bool) → shownAge (withBytes (r .value) (cond b (endedOf (bareOf (r .stored))) (bareOf (r .stored)))) u
+          ≡ shownAge (cond b (endedOf (endpointOf r)) (endpointOf r)) u
+      go true = refl
+      go false = refl
+
   marked-read : isFailSafe raw ≡ isFailSafe read
   marked-read = go (isExpired (endpointOf r) u)
     where
@@ -277,10 +285,10 @@ show-follows ys c out p us v us₂ m out′ r zs e₁ e e₂ e₃ =
     let d = lent (c .gateway) ys in
     let is : v ≡ rec .value = e .0 ∙ ap (λ (l : List Record). heldAt l c) (e₁ .1) in
     let w = subst (λ (x : List ℕ). ShowMoves q x out out′ m) is (subst (λ (x : Picked). ShowMoves x v out out′ m) (e₁ .0) e₂) in
-    let shows : m ≡ cond (isDone a) (shownMove q (length (shownOf (read rec (c .clock)))) (isFailSafe (read rec (c .clock))))
-    (refusedMove q a) =
-    w .moves ∙ (λ i. cond (isDone a) (shownMove q (length (shown-read rec (c .clock) i)) (marked-read rec (c .clock) i))
-    (refusedMove q a)) in
+    let shows : m ≡ cond (isDone a) (shownMove q (length (shownOf (read rec (c .clock)))) (isFailSafe (read rec (c .clock)))
+    (shownAge (read rec (c .clock)) (c .clock))) (refusedMove q a) =
+    w .moves ∙ (λ i. cond (isDone a) (shownMove q (length (shown-read rec (c .clock) i)) (marked-read rec (c .clock) i)
+    (aged-read rec (c .clock) i)) (refusedMove q a)) in
     let s = show-settles ys c (read rec (c .clock)) a in
     record {
       told = e₃ .0 ∙ ap (λ (x : Moved). x .told) shows ∙ s .told;

@@ -13,6 +13,7 @@ use Rattle.frame.specs.declared.Command.the-variants as K
 use Rattle.frame.specs.declared.Fields.{Fields}
 use Rattle.frame.specs.Control.{is}
 use Rattle.endpoint.specs.Endpoint.{Endpoint, noBytes, coreOf}
+use Rattle.endpoint.specs.declared.Age.the-variants.{None}
 use Rattle.endpoint.specs.declared.Reason.{Reason}
 use Rattle.endpoint.specs.declared.Reason.the-variants as R
 use Rattle.endpoint.specs.declared.Answer.{Answer}
@@ -22,7 +23,7 @@ use Rattle.endpoint.specs.Time.{isExpired, endedOf}
 use Rattle.transitions.specs.ByFrame.{refreshedOf}
 use Rattle.steps.specs.Frames.{bytesOf}
 use Rattle.steps.specs.Frames.{paddedOf, paddedRecord}
-use Rattle.steps.specs.Calls.{Outcome, isFailSafe, shownOf}
+use Rattle.steps.specs.Calls.{Outcome, isFailSafe, shownOf, shownAge}
 use Rattle.steps.specs.Deliveries.{refreshFaults, deliverOf}
 use Rattle.steps.specs.Says.{steppedOf}
 use Rattle.steps.specs.Steps as S
@@ -343,7 +344,7 @@ module _ (ys : List Record) (c : Call) where
     refused-lands a n put h =
         let m = refusedMove at a in
         record {
-          told = (λ i. calledBy (gateway-left (opens at) i) a (sym (named (isEnded a) n) i) (numbered (isEnded a) n h i) 0 false);
+          told = (λ i. calledBy (gateway-left (opens at) i) a (sym (named (isEnded a) n) i) (numbered (isEnded a) n h i) 0 false None);
           left = put-past put (settled ys m) (length ys) (omega (arith, length-settled m))
               ∙ past-settled s (cond (opens at) (c .gateway .count) 0) ∙ stepped (opens at);
         }
@@ -384,7 +385,7 @@ module _ (ys : List Record) (c : Call) where
         let q = length-after in
         record {
           told = (λ j. calledBy (atClock t (c .gateway)) (sym (l .answered) j) true n
-              (length (bytesOf (sym (l .writes) j))) false);
+              (length (bytesOf (sym (l .writes) j))) false None);
           left = fields (keeping k v) after n (length ys) s taken kept (omega (arith, q, i)) (omega (arith, q))
               ∙ ap (λ (r : Record). set after n (cond kept (keeping k v (settledRecord r s taken)) (settledRecord r s taken)))
               (still h i x)
@@ -459,12 +460,12 @@ module _ (ys : List Record) (c : Call) where
     show-at = picked (recordAt ys (c .entry) .stored) c (length ys) (c .entry)
 
     pub show-settles : Settles
-        (cond (isDone a) (shownMove show-at (length (shownOf e)) (isFailSafe e)) (refusedMove show-at a))
+        (cond (isDone a) (shownMove show-at (length (shownOf e)) (isFailSafe e) (shownAge e t)) (refusedMove show-at a))
         (cond (isDone a) (shownIn e t (c .entry) d) (refusedOf a t (c .entry) d))
     unfolding clockStep
     show-settles = go (isDone a)
       where
-        go : (b : Bool) → Settles (cond b (shownMove show-at (length (shownOf e)) (isFailSafe e)) (refusedMove show-at a))
+        go : (b : Bool) → Settles (cond b (shownMove show-at (length (shownOf e)) (isFailSafe e) (shownAge e t)) (refusedMove show-at a))
             (cond b (shownIn e t (c .entry) d) (refusedOf a t (c .entry) d))
         go true = record { told = refl; left = past-settled (recordAt ys (c .entry) .stored) (c .gateway .count) }
         go false =

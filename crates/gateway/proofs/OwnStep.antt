@@ -131,18 +131,18 @@ module _ (p : Picked) (out : List ℕ) where
 
   pub shown-moves : (bytes out′ : List ℕ) (b : Answer) (x : Endpoint) (s : Shown) (m : Moved)
       → b ≡ showAnswer p (isShort (length out)) → isDone b ≡ true → x ≡ toShow p bytes
-      → ShowSays x out out′ s
-      → m ≡ shownMove p (s .count) (s .failsafe)
+      → ShowSays x (p .call .clock) out out′ s
+      → m ≡ shownMove p (s .count) (s .failsafe) (s .age)
       → ShowMoves p bytes out out′ m
   shown-moves bytes out′ b x s m q h is u r =
       let a = showAnswer p (isShort (length out)) in
       let e = toShow p bytes in
-      let v = subst (λ (z : Endpoint). ShowSays z out out′ s) is u in
+      let v = subst (λ (z : Endpoint). ShowSays z (p .call .clock) out out′ s) is u in
       let g : isDone a ≡ true = ap isDone (sym q) ∙ h in
       let short : isShort (length out) ≡ false = roomy-in p (isShort (length out)) (entered R.Entry Done) g in
       let w : shownTo (length out) e ≡ shownOf e = ap (λ (x : Bool). cond x [] (shownOf e)) short in
       record {
-        moves = r ∙ (λ i. shownMove p ((v .counted ∙ ap length w) i) (v .marked i))
+        moves = r ∙ (λ i. shownMove p ((v .counted ∙ ap length w) i) (v .marked i) (v .aged i))
             ∙ sym (cond-true (isDone a) _ (refusedMove p a) g);
         output = v .output ∙ ap (λ (x : List ℕ). over x out) w
             ∙ sym (ap (λ (x : Bool). over (cond x (shownOf e) []) out) g);

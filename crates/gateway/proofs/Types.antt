@@ -85,7 +85,7 @@ stored-in = record {
 
 abbrev pub value-in : Inside rec value
 value-in =
-    array-in rec w8 100 1 88 (λ r. r .value) withValue refl (λ M 𝓤 H A K W t q b o r. sub t 1 refl (whole t))
+    array-in rec w8 100 1 96 (λ r. r .value) withValue refl (λ M 𝓤 H A K W t q b o r. sub t 1 refl (whole t))
     (λ r x. refl)
     (λ r is. LL.owed R.the-type R′.the-laws r _ is .1 .0)
     (λ r x is is-x. let w = LL.owed R.the-type R′.the-laws r _ is in
@@ -93,7 +93,7 @@ value-in =
 
 abbrev pub words-in : Inside rec value
 words-in =
-    array-in rec w8 100 2 188 (λ r. r .words) withWords refl (λ M 𝓤 H A K W t q b o r. sub t 2 refl (whole t))
+    array-in rec w8 100 2 196 (λ r. r .words) withWords refl (λ M 𝓤 H A K W t q b o r. sub t 2 refl (whole t))
     (λ r x. refl)
     (λ r is. LL.owed R.the-type R′.the-laws r _ is .1 .1 .0)
     (λ r x is is-x. let w = LL.owed R.the-type R′.the-laws r _ is in
@@ -101,7 +101,7 @@ words-in =
 
 abbrev pub errorinfo-in : Inside rec errorinfo
 errorinfo-in =
-    array-in rec w8 56 3 288 (λ r. r .errorinfo) withErrorInfo refl
+    array-in rec w8 56 3 296 (λ r. r .errorinfo) withErrorInfo refl
     (λ M 𝓤 H A K W t q b o r. sub t 3 refl (whole t))
     (λ r x. refl)
     (λ r is. LL.owed R.the-type R′.the-laws r _ is .1 .1 .1 .0)
@@ -160,11 +160,11 @@ kinds = record {
   c-plain = uint-plain w64;
   s-plain = plains .s-plain;
   r-small = tt;
-  told-off = 88;
-  steps-off = 128;
-  clock-off = 136;
-  place-off = 144;
-  wipe-off = 152;
+  told-off = 96;
+  steps-off = 144;
+  clock-off = 152;
+  place-off = 160;
+  wipe-off = 168;
   core-at = refl;
   told-at = refl;
   steps-at = refl;
@@ -191,7 +191,7 @@ load-kinds = record {
   o-plain = plains .o-plain;
   s-plain = struct-plain L.the-type L′.the-laws L′.the-plain;
   r-small = tt;
-  count-off = 40;
+  count-off = 48;
   told-at = refl;
   count-at = refl;
   told-is = λ s v is. LL.owed L.the-type L′.the-laws s _ is .0;
@@ -223,9 +223,11 @@ answering t g = record {
   gateway = g;
   count = t .count;
   entry = t .entry;
+  age = t .age;
   named = t .named;
   number = t .number;
   failsafe = t .failsafe;
+  aged = t .aged;
 }
 
 abbrev pub in-called : Inside called gateway

@@ -13,6 +13,8 @@ use Rattle.frame.specs.declared.Reading.{Reading}
 use Rattle.frame.specs.declared.Reading.the-variants.{Frame, Refused}
 use Rattle.frame.specs.Reading.{readingOf}
 use Rattle.endpoint.specs.Endpoint.{Endpoint}
+use Rattle.endpoint.specs.declared.Age.{Age}
+use Rattle.endpoint.specs.declared.Age.the-variants.{None, Ticks}
 use Rattle.endpoint.specs.declared.Reason.{Reason}
 use Rattle.endpoint.specs.declared.Reason.the-variants as R
 use Rattle.endpoint.specs.declared.Answer.{Answer}
@@ -22,7 +24,7 @@ use Rattle.endpoint.specs.Time.{isExpired, afterTick}
 use Rattle.steps.specs.Frames.{Written, nothing, bytesOf}
 use Rattle.steps.specs.Frames as W
 use Rattle.steps.specs.Calls.{Outcome, startOf, sendOf, stopOf, restartOf, setNotReadyOf, setResultOf, clearResultOf}
-use Rattle.steps.specs.Calls.{setRecordOf, clearRecordOf, invokeOf, readErrorOf, writeErrorOf, isFailSafe, shownOf}
+use Rattle.steps.specs.Calls.{setRecordOf, clearRecordOf, invokeOf, readErrorOf, writeErrorOf, isFailSafe, shownOf, shownAge}
 use Rattle.steps.specs.Deliveries.{deliverOf}
 use Rattle.records.specs.declared.Record.{Record}
 use Rattle.records.specs.Records.{flagOf, recordOf}
@@ -42,11 +44,17 @@ pub record Result : Type 0 where
   pub entry : Entry
   pub writes : Written
   pub failsafe : Bool
+  -- of a shown value
+  pub age : Age
   pub lent : Lent
 
-abbrev pub result : Answer → Entry → Written → Bool → Lent → Result
-result answer entry writes failsafe lent =
-    record { answer = answer; entry = entry; writes = writes; failsafe = failsafe; lent = lent }
+abbrev pub resultOf : Answer → Entry → Written → Bool → Age → Lent → Result
+resultOf answer entry writes failsafe age lent =
+    record { answer = answer; entry = entry; writes = writes; failsafe = failsafe; age = age; lent = lent }
+
+-- of a call that shows nothing
+abbrev pub result : Answer → Entry → Written → Lent → Result
+result answer entry writes lent = resultOf answer entry writes false None lent
 
 -- ---- refusals before a connection's own
 -- number 1; 2 for a slice shorter than the table, then for an output under 248 bytes; else what comes after them
@@ -68,7 +76,7 @@ refusedEntry a n = cond (isEnded a) (At n) Absent
 
 -- refused before the connection's own step
 abbrev pub refusedOf : Answer → ℕ → ℕ → Lent → Result
-refusedOf a t n d = result a (refusedEntry a n) nothing false (afterClock t d)
+refusedOf a t n d = result a (refusedEntry a n) nothing (afterClock t d)
 
 -- what a call comes to that goes on where nothing of this refuses it
 abbrev pub unlessRefused : Answer → ℕ → ℕ → Lent → Result → Result
@@ -81,7 +89,7 @@ admitIn d t short then = admit (isReading (d .gateway) t) (isShorter d) short th
 -- ---- a call on an entry
 -- the connection's own step, put back into the table that the clock step left
 abbrev pub actedOf : Outcome → ℕ → ℕ → Lent → Result
-actedOf o t n d = result (o .answer) (At n) (o .writes) false (placed n (recordOf (o .endpoint)) (clockStep t d))
+actedOf o t n d = result (o .answer) (At n) (o .writes) (placed n (recordOf (o .endpoint)) (clockStep t d))
 
 -- numbers 1, 2, 3 or 8, and 9, the first that applies; `short`: an output was lent and is under 248 bytes
 abbrev pub beforeEntry : Reason → Lent → ℕ → Bool → ℕ → Answer
@@ -139,7 +147,7 @@ abbrev pub beforeShow : Lent → ℕ → Bool → ℕ → Answer
 beforeShow d t short n = admitIn d t short (admitEntry (isEntry d n) R.Entry Done)
 
 abbrev pub shownIn : Endpoint → ℕ → ℕ → Lent → Result
-shownIn e t n d = result Done (At n) (W.value (shownOf e)) (isFailSafe e) (clockStep t d)
+shownIn e t n d = resultOf Done (At n) (W.value (shownOf e)) (isFailSafe e) (shownAge e t) (clockStep t d)
 
 abbrev pub showIn : Lent → ℕ → ℕ → ℕ → Result
 showIn d t room n =
@@ -174,20 +182,30 @@ abbrev pub entryNumber : Entry → ℕ
 entryNumber Absent = 0
 entryNumber (At n) = n
 
-abbrev pub calledBy : Gateway → Answer → Bool → ℕ → ℕ → Bool → Called
-calledBy g a named n count failsafe = record {
+abbrev pub isAged : Age → Bool
+isAged None = false
+isAged (Ticks n) = true
+
+abbrev pub ticksIn : Age → ℕ
+ticksIn None = 0
+ticksIn (Ticks n) = n
+
+abbrev pub calledBy : Gateway → Answer → Bool → ℕ → ℕ → Bool → Age → Called
+calledBy g a named n count failsafe age = record {
   gateway = g;
   count = count;
   entry = n;
+  age = ticksIn age;
   named = flagOf named;
   number = numberOf a;
   failsafe = flagOf failsafe;
+  aged = flagOf (isAged age);
 }
 
 abbrev pub calledOf : Result → Called
 calledOf r =
     calledBy (r .lent .gateway) (r .answer) (isNamed (r .entry)) (entryNumber (r .entry))
-    (length (bytesOf (r .writes))) (r .failsafe)
+    (length (bytesOf (r .writes))) (r .failsafe) (r .age)
 
 -- a call that is lent no output
 pub record CallSays (r : Result) (records : List Record) (c : Called) : Type 0 where
@@ -202,5 +220,5 @@ pub record OutputSays (r : Result) (records : List Record) (out out′ : List �
 
 -- loading answers no entry, and writes nothing
 pub record LoadSays (ws : List ℕ) (rs records : List Record) (c : Called) : Type 0 where
-  pub told : c ≡ calledBy (loadedOf ws rs .lent .gateway) (loadedOf ws rs .answer) false 0 0 false
+  pub told : c ≡ calledBy (loadedOf ws rs .lent .gateway) (loadedOf ws rs .answer) false 0 0 false None
   pub left : records ≡ loadedOf ws rs .lent .records

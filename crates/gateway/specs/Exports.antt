@@ -6,6 +6,7 @@ use Prim.Native.Nat.{ℕ}
 use Rattle.words.specs.Output.{over}
 use Rattle.steps.specs.Frames.{bytesOf}
 use Rattle.records.specs.declared.Record.{Record}
+use Rattle.endpoint.specs.declared.Age.the-variants.{None}
 use Rattle.gateway.specs.declared.Gateway.{Gateway}
 use Rattle.gateway.specs.declared.Call.{Call}
 use Rattle.gateway.specs.declared.Called.{Called}
@@ -15,8 +16,15 @@ use Rattle.gateway.specs.Calls.{Result, calledOf, calledBy}
 
 -- all but the gateway
 abbrev pub toldOf : Called → Told
-toldOf t =
-    record { count = t .count; entry = t .entry; named = t .named; number = t .number; failsafe = t .failsafe }
+toldOf t = record {
+  count = t .count;
+  entry = t .entry;
+  age = t .age;
+  named = t .named;
+  number = t .number;
+  failsafe = t .failsafe;
+  aged = t .aged;
+}
 
 -- all else of the call stays
 abbrev pub withGateway : Call → Gateway → Call
@@ -38,6 +46,6 @@ pub record LentOutputSays (r : Result) (c c′ : Call) (records : List Record) (
 
 -- loading answers no entry, and writes nothing
 pub record LentLoadSays (ws : List ℕ) (rs : List Record) (c c′ : Call) (records : List Record) (t : Told) : Type 0 where
-  pub told : t ≡ toldOf (calledBy (loadedOf ws rs .lent .gateway) (loadedOf ws rs .answer) false 0 0 false)
+  pub told : t ≡ toldOf (calledBy (loadedOf ws rs .lent .gateway) (loadedOf ws rs .answer) false 0 0 false None)
   pub kept : c′ ≡ withGateway c (loadedOf ws rs .lent .gateway)
   pub left : records ≡ loadedOf ws rs .lent .records

@@ -13,6 +13,8 @@ use Rattle.frame.specs.declared.Reading.the-variants.{Frame, Refused}
 use Rattle.frame.specs.Control.{is}
 use Rattle.frame.specs.Reading.{readingOf}
 use Rattle.endpoint.specs.Endpoint.{Endpoint, noBytes, bare, coreOf}
+use Rattle.endpoint.specs.declared.Age.{Age}
+use Rattle.endpoint.specs.declared.Age.the-variants.{None}
 use Rattle.endpoint.specs.declared.Reason.{Reason}
 use Rattle.endpoint.specs.declared.Reason.the-variants as R
 use Rattle.endpoint.specs.declared.Answer.{Answer}
@@ -22,7 +24,7 @@ use Rattle.endpoint.specs.Table.{requestOf}
 use Rattle.endpoint.specs.Time.{isExpired, afterTick}
 use Rattle.steps.specs.declared.Stepped.{Stepped}
 use Rattle.steps.specs.Frames.{nothing, bytesOf}
-use Rattle.steps.specs.Calls.{Outcome, outcome, isFailSafe, shownOf}
+use Rattle.steps.specs.Calls.{Outcome, outcome, isFailSafe, shownOf, shownAge}
 use Rattle.steps.specs.Deliveries.{deliverOf}
 use Rattle.steps.specs.Says.{steppedOf, plainStep}
 use Rattle.steps.specs.Values.{withBytes, withHanded}
@@ -160,7 +162,7 @@ module _ (p : Picked) where
   refusedMove a =
       moved (p .stored)
       (calledBy (cond opens (atClock (p .call .clock) (p .call .gateway)) (p .call .gateway)) a (isEnded a)
-      (cond (isEnded a) (p .spot) 0) 0 false)
+      (cond (isEnded a) (p .spot) 0) 0 false None)
       opens (p .room) (p .room) (p .room)
 
   -- the connection's own step: its stored part; the value is wiped where none is taken, and a new one kept, or what was
@@ -168,14 +170,14 @@ module _ (p : Picked) where
   abbrev pub actedMove : Stepped → Bool → Moved
   actedMove s kept =
       moved (storedOf (bare (s .core)))
-      (calledBy (atClock (p .call .clock) (p .call .gateway)) (s .answer) true (p .spot) (s .count) false)
+      (calledBy (atClock (p .call .clock) (p .call .gateway)) (s .answer) true (p .spot) (s .count) false None)
       true (p .spot) (cond (s .core .taken) (p .room) (p .spot))
       (cond kept (p .spot) (p .room))
 
-  abbrev pub shownMove : ℕ → Bool → Moved
-  shownMove count failsafe =
+  abbrev pub shownMove : ℕ → Bool → Age → Moved
+  shownMove count failsafe age =
       moved (p .stored)
-      (calledBy (atClock (p .call .clock) (p .call .gateway)) Done true (p .spot) count failsafe)
+      (calledBy (atClock (p .call .clock) (p .call .gateway)) Done true (p .spot) count failsafe age)
       true (p .room) (p .room) (p .room)
 
   -- a call that is lent no output
@@ -205,7 +207,7 @@ module _ (p : Picked) where
 
   pub record ShowMoves (bytes : List ℕ) (out out′ : List ℕ) (m : Moved) : Type 0 where
     pub moves : m ≡ cond (isDone (showAnswer (isShort (length out))))
-        (shownMove (length (shownOf (toShow bytes))) (isFailSafe (toShow bytes)))
+        (shownMove (length (shownOf (toShow bytes))) (isFailSafe (toShow bytes)) (shownAge (toShow bytes) (p .call .clock)))
         (refusedMove (showAnswer (isShort (length out))))
     pub output : out′ ≡ over (cond (isDone (showAnswer (isShort (length out)))) (shownOf (toShow bytes)) []) out
 
@@ -240,7 +242,7 @@ module _ (p : Picked) where
 
 -- ---- loading: what is told, and how many records are made
 abbrev pub planWith : Answer → ℕ → ℕ → Plan
-planWith a table made = record { told = calledBy (loadedWith table) a false 0 0 false; count = made }
+planWith a table made = record { told = calledBy (loadedWith table) a false 0 0 false None; count = made }
 
 abbrev pub planOf : List ℕ → ℕ → Plan
 planOf ws n =

@@ -196,8 +196,9 @@ fn do_show(p: Picked, v: [u8; 100], out: &mut [u8]) -> Moved
         return refused(a, p);
     }
     let stored = p.stored;
-    let s = steps::show::show(tick(core_of(stored), p.call.clock), &v, out);
-    shown(s.count, s.failsafe, p)
+    let s = steps::show::show(tick(core_of(stored), p.call.clock), p.call.clock, &v, out);
+    let age = s.age;
+    shown(s.count, s.failsafe, age, p)
 }
 
 // ---- the calls

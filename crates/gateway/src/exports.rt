@@ -34,9 +34,11 @@ fn told(t: Called) -> Told
     Told {
         count: t.count,
         entry: t.entry,
+        age: t.age,
         named: t.named,
         number: t.number,
         failsafe: t.failsafe,
+        aged: t.aged,
     }
 }
 

@@ -30,14 +30,17 @@ pub struct Call {
 }
 
 // What a call answers: the gateway for the next call; the bytes written to the lent output; the entry, where one is
-// named; document 01's number; the mark 'fail-safe' of a show.
+// named; the age in ticks of a value that is shown, where it is aged; document 01's number; the mark 'fail-safe' of a
+// show.
 pub struct Called {
     pub gateway: Gateway,
     pub count: usize,
     pub entry: usize,
+    pub age: u64,
     pub named: u8,
     pub number: u8,
     pub failsafe: u8,
+    pub aged: u8,
 }
 
 // What C is told: all of Called but the gateway.
@@ -45,9 +48,11 @@ pub struct Called {
 pub struct Told {
     pub count: usize,
     pub entry: usize,
+    pub age: u64,
     pub named: u8,
     pub number: u8,
     pub failsafe: u8,
+    pub aged: u8,
 }
 
 // A frame's CID, and what is asked.

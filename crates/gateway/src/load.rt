@@ -9,6 +9,7 @@ use super::Called;
 use super::Gateway;
 use super::Plan;
 use super::moves::tell;
+use endpoint::Age;
 use endpoint::Answer;
 use endpoint::Reason;
 use records::Record;
@@ -29,7 +30,7 @@ fn planned_with(a: Answer, table: usize, made: usize) -> Plan
     ensures { λ r. ⌜ r ≡ planWith a table made ⌝ }
 {
     Plan {
-        told: tell(loaded_with(table), a, false, 0, 0, false),
+        told: tell(loaded_with(table), a, false, 0, 0, false, Age::None),
         count: made,
     }
 }

@@ -3,13 +3,14 @@ ghost use mathlib.Core.Path.{_≡_};
 ghost use mathlib.Core.Bool.{cond};
 ghost use Rattle.records.specs.Records.{bareOf};
 ghost use Rattle.gateway.specs.Tables.{isReading, atClock};
-ghost use Rattle.gateway.specs.Calls.{admit, admitEntry, timely, calledBy};
+ghost use Rattle.gateway.specs.Calls.{admit, admitEntry, timely, isAged, ticksIn, calledBy};
 ghost use Rattle.gateway.specs.Parts.{opens, admitted, admittedEntry, before, refusedMove, actedMove, shownMove};
 ghost use Rattle.gateway.specs.Parts.{plainMove};
 use super::Called;
 use super::Gateway;
 use super::Moved;
 use super::Picked;
+use endpoint::Age;
 use endpoint::Answer;
 use endpoint::Reason;
 use endpoint::answers::is_done;
@@ -113,6 +114,24 @@ fn left(took: bool, clock: u64, g: Gateway) -> Gateway
     g
 }
 
+fn is_aged(age: Age) -> bool
+    ensures { λ r. ⌜ r ≡ isAged age ⌝ }
+{
+    match age {
+        Age::None => false,
+        Age::Ticks(_) => true,
+    }
+}
+
+fn ticks_in(age: Age) -> u64
+    ensures { λ r. ⌜ r ≡ ticksIn age ⌝ }
+{
+    match age {
+        Age::None => 0,
+        Age::Ticks(n) => n,
+    }
+}
+
 pub(crate) fn tell(
     g: Gateway,
     a: Answer,
@@ -120,16 +139,19 @@ pub(crate) fn tell(
     n: usize,
     count: usize,
     failsafe: bool,
+    age: Age,
 ) -> Called
-    ensures { λ r. ⌜ r ≡ calledBy g a named n count failsafe ⌝ }
+    ensures { λ r. ⌜ r ≡ calledBy g a named n count failsafe age ⌝ }
 {
     Called {
         gateway: g,
         count: count,
         entry: n,
+        age: ticks_in(age),
         named: flag_of(named),
         number: number(a),
         failsafe: flag_of(failsafe),
+        aged: flag_of(is_aged(age)),
     }
 }
 
@@ -161,6 +183,7 @@ pub(crate) fn refused(a: Answer, p: Picked) -> Moved
             choose(named, p.spot, 0),
             0,
             false,
+            Age::None,
         ),
         steps: choose(took, g.count, 0),
         clock: call.clock,
@@ -188,6 +211,7 @@ pub(crate) fn acted(s: Stepped, kept: bool, p: Picked) -> Moved
             p.spot,
             s.count,
             false,
+            Age::None,
         ),
         steps: g.count,
         clock: call.clock,
@@ -197,8 +221,8 @@ pub(crate) fn acted(s: Stepped, kept: bool, p: Picked) -> Moved
     }
 }
 
-pub(crate) fn shown(count: usize, failsafe: bool, p: Picked) -> Moved
-    ensures { λ r. ⌜ r ≡ shownMove p count failsafe ⌝ }
+pub(crate) fn shown(count: usize, failsafe: bool, age: Age, p: Picked) -> Moved
+    ensures { λ r. ⌜ r ≡ shownMove p count failsafe age ⌝ }
 {
     let call = p.call;
     let g = call.gateway;
@@ -212,6 +236,7 @@ pub(crate) fn shown(count: usize, failsafe: bool, p: Picked) -> Moved
             p.spot,
             count,
             failsafe,
+            age,
         ),
         steps: g.count,
         clock: call.clock,

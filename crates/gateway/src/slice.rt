@@ -49,6 +49,7 @@ pub(crate) fn blank() -> Stored
         words: 0,
         errorinfo: 0,
         taken: 0,
+        valueage: 0,
     }
 }
 

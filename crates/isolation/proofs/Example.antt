@@ -14,6 +14,8 @@ use Rattle.frame.specs.Control.{controlOf, hasForm}
 use Rattle.frame.specs.Reading.{hasCheckWord, fieldsIn, readingOfCopies, readingOf}
 use Rattle.frame.specs.Writing.{headBytes, withCheckWord, twice, subBytes, frameBytes}
 use Rattle.endpoint.specs.declared.Reason.the-variants as R
+use Rattle.endpoint.specs.declared.Age.{Age}
+use Rattle.endpoint.specs.declared.Age.the-variants.{None, Ticks}
 use Rattle.endpoint.specs.declared.Answer.{Answer}
 use Rattle.endpoint.specs.declared.Answer.the-variants.{Done, Dropped}
 use Rattle.steps.specs.Frames.{Written, nothing, frame, value, sentFields, ackFields, setupData, handedOver}
@@ -123,8 +125,11 @@ alike =
     (next (same _ _ _ refl) none))))))))))))))
 
 -- ---- what the station's calls tell
+abbrev telling : Age → Answer → Entry → Written → Told
+telling age a n w = record { answer = a; entry = n; writes = w; failsafe = false; age = age }
+
 abbrev tell : Answer → Entry → Written → Told
-tell a n w = record { answer = a; entry = n; writes = w; failsafe = false }
+tell a n w = telling None a n w
 
 repliedWith : List ℕ → ℕ → Command → Told
 repliedWith body t k = tell Done (At 1) (frame (ackFields k false false cid t) body)
@@ -132,7 +137,8 @@ repliedWith body t k = tell Done (At 1) (frame (ackFields k false false cid t) b
 replied : ℕ → Command → Told
 replied t k = repliedWith (data-of k) t k
 
--- a reply to each request, the command's with its result; S-Refresh is taken; a show that is lent too little; the value
+-- a reply to each request, the command's with its result; S-Refresh is taken; a show that is lent too little; the value and
+-- its age
 answers : List Told
 answers =
     replied 10 K.Connect
@@ -144,7 +150,7 @@ answers =
     ∷ replied 50 K.RefreshGo
     ∷ tell Done (At 1) nothing
     ∷ tell (Dropped R.Buffer) Absent nothing
-    ∷ tell Done (At 1) (value (1 ∷ 2 ∷ 3 ∷ 4 ∷ [])) ∷ []
+    ∷ telling (Ticks 12) Done (At 1) (value (1 ∷ 2 ∷ 3 ∷ 4 ∷ [])) ∷ []
 
 computed : toldOf 1 (connectionAt list 1) (loadedOf list lent .lent) run ≡ answers
 unfolding run request result resultSet refresh elsewhere data-of seven station list lent cid repliedWith replied

@@ -16,6 +16,8 @@ use Rattle.endpoint.specs.declared.Settings.{Settings}
 use Rattle.endpoint.specs.Endpoint.{Endpoint}
 use Rattle.endpoint.specs.declared.Reason.{Reason}
 use Rattle.endpoint.specs.declared.Reason.the-variants as R
+use Rattle.endpoint.specs.declared.Age.{Age}
+use Rattle.endpoint.specs.declared.Age.the-variants.{None}
 use Rattle.endpoint.specs.declared.Answer.{Answer}
 use Rattle.endpoint.specs.declared.Answer.the-variants.{Done}
 use Rattle.endpoint.specs.Answers.{isDone}
@@ -23,7 +25,7 @@ use Rattle.endpoint.specs.Time.{lastReading, afterTick}
 use Rattle.transitions.specs.ByCall.{freshOf}
 use Rattle.steps.specs.Frames.{Written, nothing}
 use Rattle.steps.specs.Frames as W
-use Rattle.steps.specs.Calls.{Outcome, sendOf, isFailSafe, shownOf}
+use Rattle.steps.specs.Calls.{Outcome, sendOf, isFailSafe, shownOf, shownAge}
 use Rattle.steps.specs.Deliveries.{deliverOf}
 use Rattle.steps.specs.Steps as S
 use Rattle.steps.proofs.Keeps.{bcase}
@@ -47,11 +49,11 @@ use Rattle.isolation.proofs.Tables.{Table, counted, within, is-entry, n
 use Rattle.isolation.proofs.Tables.{table-kept, loaded-with, loaded-at, loaded-table}
 
 -- ---- what a call on an entry tells: by its answer before the step, and by the step
-abbrev tell : Answer → Entry → Written → Bool → Told
-tell a entry w failsafe = record { answer = a; entry = entry; writes = w; failsafe = failsafe }
+abbrev tell : Answer → Entry → Written → Bool → Age → Told
+tell a entry w failsafe age = record { answer = a; entry = entry; writes = w; failsafe = failsafe; age = age }
 
 abbrev toldBy : Answer → ℕ → Told → Told
-toldBy a n x = cond (isDone a) x (tell a (refusedEntry a n) nothing false)
+toldBy a n x = cond (isDone a) x (tell a (refusedEntry a n) nothing false None)
 
 told-cond : (b : Bool) (x y : Result) → told (cond b x y) ≡ cond b (told x) (told y)
 told-cond true x y = refl
@@ -117,7 +119,7 @@ module _ (e : ℕ) (ws ws′ : List ℕ) where
         let c = recordAt (afterClock t d′ .records) e in
         record {
           says = told-cond (isDone a) (actedOf o t e d) (refusedOf a t e d)
-              ∙ ap₂ (λ (b : Answer) (x : Outcome). toldBy b e (tell (x .answer) (At e) (x .writes) false))
+              ∙ ap₂ (λ (b : Answer) (x : Outcome). toldBy b e (tell (x .answer) (At e) (x .writes) false None))
               (before-same absent short) (ap does endpoint-same)
               ∙ sym (told-cond (isDone a′) (actedOf o′ t e d′) (refusedOf a′ t e d′));
           leaves = entry-record d t does absent short e (within ws d (H .table) e there)
@@ -137,7 +139,8 @@ module _ (e : ℕ) (ws ws′ : List ℕ) where
         let q : a ≡ a′ = rw (reading-same, shorter-same, entry-same) in
         record {
           says = told-cond (isDone a) (shownIn x t e d) (refusedOf a t e d)
-              ∙ ap₂ (λ (b : Answer) (y : Endpoint). toldBy b e (tell Done (At e) (W.value (shownOf y)) (isFailSafe y)))
+              ∙ ap₂ (λ (b : Answer) (y : Endpoint). toldBy b e
+              (tell Done (At e) (W.value (shownOf y)) (isFailSafe y) (shownAge y t)))
               q (ap (λ (y : Endpoint). afterTick y t) endpoint-same)
               ∙ sym (told-cond (isDone a′) (shownIn x′ t e d′) (refusedOf a′ t e d′));
           leaves = one-record d t room (show e) .others e absent-at ∙ clocked-same

@@ -10,6 +10,7 @@ use lib.Seq.{slice}
 use Rattle.frame.specs.declared.Reading.{Reading}
 use Rattle.frame.specs.declared.Reading.the-variants.{Frame, Refused}
 use Rattle.frame.specs.Reading.{readingOf}
+use Rattle.endpoint.specs.declared.Age.{Age}
 use Rattle.endpoint.specs.declared.Answer.{Answer}
 use Rattle.endpoint.specs.declared.Answer.the-variants.{Done}
 use Rattle.steps.specs.Frames.{Written}
@@ -107,9 +108,11 @@ pub record Told : Type 0 where
   pub entry : Entry
   pub writes : Written
   pub failsafe : Bool
+  pub age : Age
 
 abbrev pub told : Result → Told
-told r = record { answer = r .answer; entry = r .entry; writes = r .writes; failsafe = r .failsafe }
+told r =
+    record { answer = r .answer; entry = r .entry; writes = r .writes; failsafe = r .failsafe; age = r .age }
 
 -- what the calls for this connection tell, in order; each call is lent what the last one left: "the slice being lent
 -- whole each time and as the last call left it"

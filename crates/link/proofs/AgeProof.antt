@@ -11,7 +11,7 @@ use borrow.Author.Tests.{leb-true}
 use mathlib.Mathlib.Data.Bool.Basic.{and-elim-left as and-left, and-elim-right as and-right}
 use Rattle.endpoint.specs.declared.Settings.{Settings}
 use Rattle.endpoint.specs.Endpoint.{Endpoint}
-use Rattle.endpoint.specs.Time.{isExpired}
+use Rattle.endpoint.specs.Time.{isExpired, heldAge, boundOf}
 use Rattle.steps.specs.Calls.{isFailSafe, shownOf}
 use Rattle.steps.proofs.Dispatch.{cond-false}
 use Rattle.steps.proofs.Keeps.{bcase}
@@ -20,7 +20,7 @@ use Rattle.link.specs.Runs.{Clocks, momentOf, Event}
 use Rattle.link.specs.Runs.{Sent, sentAt, logged, Show, shown, showAt, Link, mayDeliver, tookBy}
 use Rattle.link.specs.Runs.{shownBy}
 use Rattle.link.specs.Runs.{afterEvent, afterAll, begun}
-use Rattle.link.specs.Fresh.{Paired, boundOf, ItsSend, Fresh, AgeTheorem, Silence}
+use Rattle.link.specs.Fresh.{Paired, ItsSend, Fresh, AgeTheorem, Silence}
 use Rattle.link.proofs.Marks.{size}
 use Rattle.link.proofs.Ages.{compared, le-or-lt}
 use Rattle.link.proofs.Invariant.{limit, restM, restS, Inv}
@@ -29,7 +29,7 @@ use Rattle.link.proofs.Relation.{termsOf, small-of, marks, Honest, Link
 use Rattle.link.proofs.Ends.{at-master, at-slave}
 use Rattle.link.proofs.AtMaster.{shown-m}
 use Rattle.link.proofs.AtSlave.{shown-s}
-use Rattle.link.proofs.Shown.{ShownAt, shown-within}
+use Rattle.link.proofs.Shown.{ShownAt, marginAt}
 use Rattle.link.proofs.Sends.{ShowsInv, grow, add, sent-by}
 
 pub record RunInv (c : Clocks) (sm ss : Settings) (l : Link) : Type 0 where
@@ -57,37 +57,31 @@ module _ (c : Clocks) (sm ss : Settings) (p : Paired sm ss) where
       → ShowsInv sm ss log tm ts (shows ++ [])
   quiet log tm ts shows v = subst (ShowsInv sm ss log tm ts) (sym (append-nil shows)) v
 
-  bound-m : sm .age + (sm .interval + sm .roundtrip) ≤ boundOf sm
-  bound-m = rw (p .master) (omega arith)
-
-  bound-s : ss .age + (ss .interval + 0) ≤ boundOf ss
-  bound-s = rw (p .slave) (omega arith)
-
   -- a show at either end, whose value has its send
   shows-at : (slave : Bool) (log : List Sent) (e : Endpoint) (tm ts m t : ℕ) (shows : List Show)
       → ((i : ℕ) → i < length log → Honest (sentAt log i))
       → (isExpired e t ≡ false → isFailSafe e ≡ false
-      → ShownAt (marks log) (cond slave 0 2) (cond slave ts tm) m (boundOf (cond slave ss sm)) (shownOf e))
+      → ShownAt (marks log) (cond slave 0 2) (cond slave ts tm) m (heldAge e t) (marginAt slave sm ss) (shownOf e))
       → ShowsInv sm ss log tm ts shows
       → ShowsInv sm ss log tm ts
-      (shows ++ shownBy slave m (cond slave ts tm) (length log) show (callOf e t show .endpoint))
+      (shows ++ shownBy slave m t (cond slave ts tm) (length log) show (callOf e t show .endpoint))
   shows-at slave log e tm ts m t shows honest its v =
-      let x = shown slave m (shownOf e) (cond slave ts tm) (length log) in
+      let x = shown slave m (shownOf e) (heldAge e t) (cond slave ts tm) (length log) in
       bcase (isExpired e t) (λ x. rw x (quiet log tm ts shows v))
       (λ n. rw n (bcase (isFailSafe e) (λ f. rw f (quiet log tm ts shows v))
       (λ f. subst (λ (y : List Show). ShowsInv sm ss log tm ts (shows ++ y))
       (sym (cond-false (isFailSafe e) [] (x ∷ []) f))
       (add sm ss log tm ts shows x
-      (sent-by sm ss log slave (cond slave ts tm) m (shownOf e) honest (its n f)) refl v))))
+      (sent-by sm ss p log slave (cond slave ts tm) m (heldAge e t) (shownOf e) honest (its n f)) refl v))))
 
   -- what a call adds to the shows, whatever the call; what it writes and takes comes after
   adds : (slave : Bool) (log : List Sent) (e : Endpoint) (tm ts m t : ℕ) (shows : List Show) (call : Call)
       → ((i : ℕ) → i < length log → Honest (sentAt log i))
       → (isExpired e t ≡ false → isFailSafe e ≡ false
-      → ShownAt (marks log) (cond slave 0 2) (cond slave ts tm) m (boundOf (cond slave ss sm)) (shownOf e))
+      → ShownAt (marks log) (cond slave 0 2) (cond slave ts tm) m (heldAge e t) (marginAt slave sm ss) (shownOf e))
       → ShowsInv sm ss log tm ts shows
       → ShowsInv sm ss log tm ts
-      (shows ++ shownBy slave m (cond slave ts tm) (length log) call (callOf e t call .endpoint))
+      (shows ++ shownBy slave m t (cond slave ts tm) (length log) call (callOf e t call .endpoint))
   adds slave log e tm ts m t shows (act a) honest its v = quiet log tm ts shows v
   adds slave log e tm ts m t shows (send value) honest its v = quiet log tm ts shows v
   adds slave log e tm ts m t shows (deliver f body) honest its v = quiet log tm ts shows v
@@ -105,11 +99,11 @@ module _ (c : Clocks) (sm ss : Settings) (p : Paired sm ss) where
         shown = grow sm ss (l .log) (logged false (t + c .master) call (callOf (l .master) t call .writes))
             (l .masterTook) (l .slaveTook)
             (tookBy (l .log) call (callOf (l .master) t call .answer) (l .masterTook)) (l .slaveTook)
-            (l .shows ++ shownBy false (t + c .master) (l .masterTook) (length (l .log)) call
+            (l .shows ++ shownBy false (t + c .master) t (l .masterTook) (length (l .log)) call
             (callOf (l .master) t call .endpoint)) (A .1) (omega arith)
             (adds false (l .log) (l .master) (l .masterTook) (l .slaveTook) (t + c .master) t (l .shows) call
             (L .honest)
-            (λ x f. shown-within (boundOf sm) bound-m (shown-m c sm ss p t lim L x f)) (v .shown));
+            (shown-m c sm ss p t lim L) (v .shown));
       }
   step l true t call h k lim v =
       let L = linked-later (t + c .slave) k (v .linked) in
@@ -119,10 +113,10 @@ module _ (c : Clocks) (sm ss : Settings) (p : Paired sm ss) where
         shown = grow sm ss (l .log) (logged true (t + c .slave) call (callOf (l .slave) t call .writes))
             (l .masterTook) (l .slaveTook)
             (l .masterTook) (tookBy (l .log) call (callOf (l .slave) t call .answer) (l .slaveTook))
-            (l .shows ++ shownBy true (t + c .slave) (l .slaveTook) (length (l .log)) call
+            (l .shows ++ shownBy true (t + c .slave) t (l .slaveTook) (length (l .log)) call
             (callOf (l .slave) t call .endpoint)) (omega arith) (A .1)
             (adds true (l .log) (l .slave) (l .masterTook) (l .slaveTook) (t + c .slave) t (l .shows) call (L .honest)
-            (λ x f. shown-within (boundOf ss) bound-s (shown-s c sm ss p t lim L x f)) (v .shown));
+            (shown-s c sm ss p t lim L) (v .shown));
       }
 
   -- ---- every list: what is allowed at the end was allowed all along
@@ -207,7 +201,7 @@ module _ (c : Clocks) (sm ss : Settings) (p : Paired sm ss) where
         let s = r .shown .its i h in
         let a = s .sent in
         let q : s .place ≡ k = omega arith in
-        subst (λ (n : ℕ). ItsSend (boundOf (cond (showAt (l .shows) i .slave) ss sm)) (showAt (l .shows) i)
+        subst (λ (n : ℕ). ItsSend (cond (showAt (l .shows) i .slave) ss sm) (sm .roundtrip) (showAt (l .shows) i)
         (sentAt (l .log) n)) q (s .fits);
     in-order = r .shown .order;
   }
@@ -226,5 +220,5 @@ silence sm ss c vs slave last p h before i k e =
     (f .refresh) in
     let y : showAt (l .shows) i .moment ≤ sentAt (l .log) (s .place) .moment + boundOf (cond slave ss sm) =
     subst (λ (b : Bool). showAt (l .shows) i .moment ≤ sentAt (l .log) (s .place) .moment + boundOf (cond b ss sm)) e
-    (f .young) in
+    (f .aged .young) in
     omega arith

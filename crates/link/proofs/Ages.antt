@@ -1,12 +1,12 @@
 -- Arithmetic of clocks modulo 2^48: an offset reckoned from a round trip, and ages by it. Plain numbers only.
-use mathlib.Core.Path.{_≡_, ap, _∙_}
+use mathlib.Core.Path.{_≡_, sym, ap, _∙_}
 use mathlib.Core.Logic.{_⊎_, inl, inr, ⊎-elim}
-use Prim.Native.Nat.{ℕ, _+_, _-_, _*_, _%_, _^_, _≤_, _<_}
+use Prim.Native.Nat.{ℕ, _+_, _-_, _*_, _%_, _≤_, _<_}
 use native.Mathlib.Omega.{arith}
 use native.Mathlib.Decide.{decLe}
 use borrow.Author.Tests.{le-ltb, lt-ltb, le-leb, lt-leb}
 use native.Mathlib.Nat.{mod-eq-of-lt, add-mul-mod-self-right, mod-add-mod}
-use Rattle.endpoint.specs.Time.{span, minus, offsetFrom}
+use Rattle.endpoint.specs.Time.{span, half, minus, countedAge, offsetFrom}
 
 -- what a comparison comes to where the order is known
 pub ruleset compared = (le-leb, lt-leb, le-ltb, lt-ltb)
@@ -57,34 +57,52 @@ pub estimate : (cm r k o s2 m t m′ : ℕ) → Near cm r o s2 m → s2 ≤ t �
 estimate cm r k o s2 m t m′ n b p h = let d = n .m2 + (t - s2) in let e : (t + o) % span ≡ d = residue (t + o)
     (n .turns) d (omega arith) (omega arith) in rw e (omega arith, omega arith)
 
--- an age as reckoned passes: not above the limit, and where ahead, within the allowance
-abbrev pub NotLate : ℕ → ℕ → Type 0
-NotLate x limit = x < 2 ^ 47 → x ≤ limit
+-- what an age comes to
+counted-ahead : (x : ℕ) → half ≤ x → countedAge x ≡ 0
+counted-ahead x h = simp compared
 
+counted-past : (x : ℕ) → x < half → countedAge x ≡ x
+counted-past x h = simp compared
+
+-- an age as reckoned passes: where ahead, within the allowance, and not above the limit
 pub record Young (x ahead age : ℕ) : Type 0 where
-  pub early : 2 ^ 47 ≤ x → span - x ≤ ahead
-  pub late : NotLate x age
-
--- the master's reckoning of a stamp at most r ahead
-pub lapse-master : (t s r a : ℕ) → t ≤ span - 65536 → s < span → r ≤ 65535 → s ≤ t + r
-    → Young (minus (t % span) s) r a → t ≤ s + a
-lapse-master t s r a h k g d y = ⊎-elim (λ p. omega arith)
-    (λ p. let e : minus (t % span) s ≡ t - s = omega arith in let y′ : Young (t - s) r a = rw e at y in ⊎-elim
-    (λ q. let z = y′ .early q in omega arith) (λ q. let z = y′ .late q in omega arith) (le-or-lt (2 ^ 47) (t - s)))
-    (le-or-lt t s)
+  pub early : half ≤ x → span - x ≤ ahead
+  pub late : countedAge x ≤ age
 
 pub young-more : (x a a′ g : ℕ) → a ≤ a′ → Young x a g → Young x a′ g
 young-more x a a′ g h y = record { early = λ q. let z = y .early q in omega arith; late = y .late }
 
--- a slave's reckoning of a stamp that is past, and not by half a turn: how far ahead it allows is of no account
-pub lapse-slave : (cm r k o s2 m t m′ s a : ℕ) → Near cm r o s2 m → s2 ≤ t → Pace k s2 m t m′ → s < span → s + cm ≤ m′
-    → m′ + r + k < s + cm + 2 ^ 47 → NotLate (minus ((t + o) % span) s) a → m′ ≤ s + cm + a + k
-lapse-slave cm r k o s2 m t m′ s a n b p h g w y = ⊎-elim
-    (λ l. let d = n .m2 + (t - s2) - s in
-    let e : minus ((t + o) % span) s ≡ d = ap (λ (z : ℕ). ((t + o) % span + (span - z)) % span) (mod-eq-of-lt h)
-    ∙ (mod-add-mod (t + o) span (span - s)
-    ∙ residue (t + o + (span - s)) (n .turns + 1) d (omega arith) (omega arith)) in
-    let y′ : NotLate d a = rw e at y in
-    let z = y′ (omega arith) in omega arith)
-    (λ l. omega arith)
-    (le-or-lt s (n .m2 + (t - s2)))
+-- the master's reckoning of a stamp at most r ahead is exact
+pub lapse-master : (t s r : ℕ) → t ≤ span - 65536 → s < span → r ≤ 65535 → s ≤ t + r
+    → let x = minus (t % span) s in (half ≤ x → span - x ≤ r) → countedAge x ≡ t - s
+lapse-master t s r h k g d y =
+    let x = minus (t % span) s in
+    ⊎-elim
+    (λ p. let e : x ≡ t - s = omega arith in
+    ⊎-elim (λ u. let z = y u in absurd (omega arith)) (λ u. counted-past x u ∙ e) (le-or-lt half x))
+    (λ p. let e : t - s ≡ 0 = omega arith in counted-ahead x (omega arith) ∙ sym e)
+    (le-or-lt s t)
+
+-- a slave's reckoning of a stamp that is past, and not by half a turn: what its estimate of the master's time is above
+-- the stamp; how far ahead it allows is of no account
+reckon-slave : (n o t s d : ℕ) → t + o ≡ d + n * span → s < span → d < s + half → s ≤ d + 65535
+    → countedAge (minus ((t + o) % span) s) ≡ d - s
+reckon-slave n o t s d e h past near = ⊎-elim
+    (λ p. let q = reckoned (n + 1) (d - s) (omega arith) (omega arith) in
+    ap countedAge q ∙ counted-past (d - s) (omega arith))
+    (λ p. let q = reckoned n (d + span - s) (omega arith) (omega arith) in
+    let z : d - s ≡ 0 = omega arith in
+    ap countedAge q ∙ counted-ahead (d + span - s) (omega arith) ∙ sym z)
+    (le-or-lt s d)
+  where
+    reckoned : (k x : ℕ) → t + o + (span - s) ≡ x + k * span → x < span → minus ((t + o) % span) s ≡ x
+    reckoned k x q u = ap (λ (z : ℕ). ((t + o) % span + (span - z)) % span) (mod-eq-of-lt h)
+        ∙ (mod-add-mod (t + o) span (span - s) ∙ residue (t + o + (span - s)) k x q u)
+
+pub lapse-slave : (cm r k o s2 m t m′ s : ℕ) → Near cm r o s2 m → s2 ≤ t → Pace k s2 m t m′ → s < span → s + cm ≤ m′
+    → m′ + r + k < s + cm + half → k ≤ 65535
+    → let f = countedAge (minus ((t + o) % span) s) in (m′ ≤ s + cm + f + k) × (s + cm + f ≤ m′ + r + k)
+lapse-slave cm r k o s2 m t m′ s n b p h g w u =
+    let d = n .m2 + (t - s2) in
+    let e = reckon-slave (n .turns) o t s d (omega arith) h (omega arith) (omega arith) in
+    rw e (omega arith, omega arith)

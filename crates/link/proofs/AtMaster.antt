@@ -22,7 +22,7 @@ use Rattle.endpoint.specs.declared.Station.{Station}
 use Rattle.endpoint.specs.Endpoint.{Endpoint, Words}
 use Rattle.endpoint.specs.Table.{isState, isSetup, nextOf, stateTo, requestOf}
 use Rattle.endpoint.specs.Due.{isWaiting, queuedIn, isCommandDue, requestDue}
-use Rattle.endpoint.specs.Time.{span, minus, isExpired, endedOf, allowanceOf, timeOf, ageOf}
+use Rattle.endpoint.specs.Time.{span, minus, isExpired, endedOf, allowanceOf, countedAge, heldAge, timeOf, ageOf}
 use Rattle.transitions.specs.ByCall.{startedOf, restartedOf, requestedOf, refreshSentOf, stoppedOf}
 use Rattle.transitions.specs.ByFrame.{refreshedOf, measuredBy, confirmedOf, dueAgainOf, performedOf}
 use Rattle.steps.specs.Frames.{setupData, dueData, baselineOf, requestFields, refreshFields, disconnectFields}
@@ -35,14 +35,14 @@ use Rattle.link.specs.Runs.{Clocks, Sent}
 use Rattle.link.specs.Fresh.{Paired}
 use Rattle.link.proofs.Marks.{Mark, mark, at, snoc, Has}
 use Rattle.link.proofs.Invariant.{limit, Terms, Small, MPhase, restM, asked, got, liveM, Master, Inv, MPh}
-use Rattle.link.proofs.Invariant.{GoOf, wobble}
+use Rattle.link.proofs.Invariant.{GoOf, marginM}
 use Rattle.link.proofs.Kept.{m-phase, m-got, m-writes, m-goes, m-takes, held-rises}
 use Rattle.link.proofs.Relation.{termsOf, small-of, whoOf, markOf, marks, topOf, above-top, RelM, Honest, Linked}
 use Rattle.link.proofs.Relation.{setup-timer, refresh-timer, master-time, not-late, not-ahead, toldOf}
 use Rattle.link.proofs.Ages.{Young, young-more}
 use Rattle.link.proofs.Entries.{marks-snoc, honest-snoc, is-eq, FoundAt, in-log, the-mark, marked-code}
 use Rattle.link.proofs.Entries.{marked-stamp, marked-body}
-use Rattle.link.proofs.Shown.{ShownAt, in-refresh, held-shown}
+use Rattle.link.proofs.Shown.{ShownAt, marginAt, in-refresh, held-shown}
 use Rattle.link.proofs.Codes.{go-due, go-baseline, due-not-refresh, setup-not-refresh, refresh-not-setup}
 use Rattle.link.proofs.Codes.{pending-setup, busy-due, command-due}
 
@@ -126,7 +126,7 @@ module _ (c : Clocks) (sm ss : Settings) (p : Paired sm ss) {l : List Sent} {em 
   wrote : (e : Endpoint) (w : Sent) (code baseline : ℕ) (body : List ℕ) (phase : MPhase) → e .settings ≡ sm
       → markOf w ≡ mark 0 code t baseline (t + c .master) body → Honest w → topOf (em .timestamps .sent) ≤ t
       → (code ≡ 254 → Has (GoOf (termsOf c sm ss) (marks l) (mark 0 code t baseline (t + c .master) body)) (marks l))
-      → MPh (termsOf c sm ss) (marks l) (suc t) (L .master .held) phase
+      → MPh (termsOf c sm ss) (t + c .master) (marks l) (suc t) (L .master .held) phase
       → RelM e tm (record { nextOut = suc t; nextIn = L .master .nextIn; held = L .master .held; phase = phase })
       → Linked c sm ss (t + c .master) (l ++ (w ∷ [])) e es tm ts
   wrote e w code baseline body phase s m h a g ph r =
@@ -227,12 +227,12 @@ module _ (c : Clocks) (sm ss : Settings) (p : Paired sm ss) {l : List Sent} {em 
     refresh-above : topOf (em .timestamps .sent) ≤ t
     refresh-above = let z = above-top (em .timestamps .sent) (timeOf em t) (d .above) in let y = time in omega arith
 
-    live-again : (f : MPhase) (v : Option (List ℕ)) → f ≡ liveM (em .since) v
-        → MPh (termsOf c sm ss) (marks l) (L .master .nextOut) (L .master .held) f
-        → MPh (termsOf c sm ss) (marks l) (suc t) (L .master .held) f
+    live-again : (f : MPhase) (v : Option (List ℕ)) → f ≡ liveM (em .since) (em .value .age) v
+        → MPh (termsOf c sm ss) (t + c .master) (marks l) (L .master .nextOut) (L .master .held) f
+        → MPh (termsOf c sm ss) (t + c .master) (marks l) (suc t) (L .master .held) f
     live-again f v e h =
-        subst (MPh (termsOf c sm ss) (marks l) (suc t) (L .master .held)) (sym e)
-        (subst (MPh (termsOf c sm ss) (marks l) (L .master .nextOut) (L .master .held)) e h)
+        subst (MPh (termsOf c sm ss) (t + c .master) (marks l) (suc t) (L .master .held)) (sym e)
+        (subst (MPh (termsOf c sm ss) (t + c .master) (marks l) (L .master .nextOut) (L .master .held)) e h)
 
     pub refresh-sent-m : Linked c sm ss (t + c .master) (l ++ (refreshing ∷ [])) (refreshSentOf em t) es tm ts
     refresh-sent-m =
@@ -372,7 +372,7 @@ module _ (c : Clocks) (sm ss : Settings) (p : Paired sm ss) {l : List Sent} {em 
                 nextOut = L .master .nextOut;
                 nextIn = L .master .nextIn;
                 held = L .master .held;
-                phase = liveM t none;
+                phase = liveM t 0 none;
               };
               slave = L .slave;
               setM = L .setM;
@@ -387,7 +387,7 @@ module _ (c : Clocks) (sm ss : Settings) (p : Paired sm ss) {l : List Sent} {em 
               };
               relS = L .relS;
               honest = L .honest;
-              inv = m-phase (termsOf c sm ss) (small-of c sm ss p) (liveM t none) tt (L .inv);
+              inv = m-phase (termsOf c sm ss) (small-of c sm ss p) (liveM t 0 none) (omega arith, tt) (L .inv);
             }
 
         confirmed : (s : State) → em .state ≡ s → isSetup s ≡ true
@@ -441,18 +441,22 @@ module _ (c : Clocks) (sm ss : Settings) (p : Paired sm ss) {l : List Sent} {em 
       allows : allowanceOf (em .settings) ≤ em .settings .roundtrip
       allows = rw role (omega arith)
 
+      reckoned : ageOf em t (f .timestamp) ≡ minus (t % span) (at (marks l) k .stamp)
+      reckoned =
+          ap (λ (y : ℕ). minus y (f .timestamp)) (time ∙ omega arith)
+          ∙ ap (minus (t % span)) (sym (marked-stamp f body l k g))
+
       young : Young (minus (t % span) (at (marks l) k .stamp)) (sm .roundtrip) (sm .age)
       young =
-          let a : ageOf em t (f .timestamp) ≡ minus (t % span) (at (marks l) k .stamp) =
-          ap (λ (y : ℕ). minus y (f .timestamp)) (time ∙ omega arith)
-          ∙ ap (minus (t % span)) (sym (marked-stamp f body l k g)) in
+          let a = reckoned in
           let w = allows in
           let r : em .settings .roundtrip ≡ sm .roundtrip = ap (λ (y : Settings). y .roundtrip) (L .setM) in
           let g : em .settings .age ≡ sm .age = ap (λ (y : Settings). y .age) (L .setM) in
           record {
             early = λ h. let z = not-ahead (ageOf em t (f .timestamp)) (allowanceOf (em .settings)) (d .near)
                 (omega arith) in omega arith;
-            late = λ h. let z = not-late (ageOf em t (f .timestamp)) (em .settings .age) (d .young) (omega arith) in
+            late = let y = ap countedAge a in
+                let z = not-late (ageOf em t (f .timestamp)) (em .settings .age) (d .young) in
                 omega arith;
           }
 
@@ -480,7 +484,7 @@ module _ (c : Clocks) (sm ss : Settings) (p : Paired sm ss) {l : List Sent} {em 
               nextOut = L .master .nextOut;
               nextIn = suc (at (marks l) k .stamp);
               held = suc k;
-              phase = liveM t (some (at (marks l) k .body));
+              phase = liveM t (countedAge (minus (t % span) (at (marks l) k .stamp))) (some (at (marks l) k .body));
             };
             slave = L .slave;
             setM = L .setM;
@@ -491,9 +495,8 @@ module _ (c : Clocks) (sm ss : Settings) (p : Paired sm ss) {l : List Sent} {em 
               held = refl;
               live = λ z. record {
                 value = some body;
-                phase = ap (λ (y : List ℕ). liveM t (some y)) b;
-                holds =
-                    (refl, refl, d .width);
+                phase = λ j. liveM t (countedAge (sym reckoned j)) (some (b j));
+                holds = (refl, refl, d .width);
               };
               pend = λ z y o. absurd (true≢false (sym z ∙ n));
               ready = λ z y. absurd (true≢false (sym (pending-setup (em .state) z) ∙ n));
@@ -507,13 +510,20 @@ module _ (c : Clocks) (sm ss : Settings) (p : Paired sm ss) {l : List Sent} {em 
 
   -- ---- a show that is not fail-safe
   module _ (x : isExpired em t ≡ false) (n : isFailSafe em ≡ false) where
-    pub shown-m : ShownAt (marks l) 2 tm (t + c .master) (sm .age + (sm .interval + sm .roundtrip)) (shownOf em)
+    pub shown-m : ShownAt (marks l) 2 tm (t + c .master) (heldAge em t) (marginAt false sm ss) (shownOf em)
     shown-m =
         let v = L .relM .live (in-refresh em n) in
+        let w : MPh (termsOf c sm ss) (t + c .master) (marks l) (L .master .nextOut) (L .master .held)
+        (liveM (em .since) (em .value .age) (v .value)) =
+        subst (MPh (termsOf c sm ss) (t + c .master) (marks l) (L .master .nextOut) (L .master .held)) (v .phase)
+        (L .inv .master .phase) in
+        let a = w .0 in
         let u = refresh-timer em t x (in-refresh em n) in
         let i : em .settings .interval ≡ sm .interval = ap (λ (y : Settings). y .interval) (L .setM) in
-        subst (λ (b : ℕ). ShownAt (marks l) 2 tm (t + c .master) b (shownOf em)) (omega arith)
-        (held-shown em (marks l) 2 (L .master .nextIn) tm (em .since + c .master) (sm .age + sm .roundtrip + wobble)
-        (t + c .master) (sm .interval) (v .value) (L .master .held) n (v .holds) (L .relM .held) (L .inv .master .held)
-        (subst (MPh (termsOf c sm ss) (marks l) (L .master .nextOut) (L .master .held)) (v .phase)
-        (L .inv .master .phase)) (λ k z. L .inv .log .stamped k z .past) (omega arith))
+        let s = p .ticksM .age in
+        let s′ = p .ticksM .interval in
+        held-shown em (marks l) 2 (L .master .nextIn) tm (em .since + c .master) t (t + c .master) (sm .interval)
+        (marginM (termsOf c sm ss)) (marginAt false sm ss) (v .value) (L .master .held) n (v .holds) (L .relM .held)
+        (L .inv .master .held) (w .1) (λ k z. L .inv .log .stamped k z .past)
+        (record { up = omega arith; down = omega arith }) (omega arith) (omega arith)
+        (record { most = omega arith; low = omega arith; high = omega arith; small = omega arith })

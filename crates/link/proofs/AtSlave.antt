@@ -23,7 +23,8 @@ use Rattle.endpoint.specs.Endpoint.{Endpoint, Words}
 use Rattle.endpoint.specs.declared.Next.{Next}
 use Rattle.endpoint.specs.Table.{isState, isNo, nextOf, stateTo}
 use Rattle.endpoint.specs.Due.{isHeldBack}
-use Rattle.endpoint.specs.Time.{span, minus, isExpired, isAbove, endedOf, offsetFrom, timeOf, ageOf}
+use Rattle.endpoint.specs.Time.{span, minus, isExpired, isAbove, endedOf, countedAge, heldAge, offsetFrom, timeOf}
+use Rattle.endpoint.specs.Time.{ageOf}
 use Rattle.endpoint.specs.Updates.{inState}
 use Rattle.transitions.specs.ByCall.{restartedOf, refreshSentOf, stoppedOf}
 use Rattle.transitions.specs.ByFrame.{refreshedOf, measuredBy, advancedOf, endedBy, deferredOf}
@@ -36,14 +37,14 @@ use Rattle.steps.proofs.Keeps.{bcase}
 use Rattle.link.specs.Runs.{Clocks, Sent}
 use Rattle.link.specs.Fresh.{Paired}
 use Rattle.link.proofs.Marks.{Mark, mark, at, snoc}
-use Rattle.link.proofs.Ages.{NotLate}
-use Rattle.link.proofs.Invariant.{limit, SPhase, restS, armed, liveS, Slave, Inv, SPh, LiveS, wobble}
+use Rattle.link.proofs.Invariant.{limit, SPhase, restS, armed, liveS, Slave, Inv, SPh, LiveS, marginS}
+use Rattle.link.proofs.Invariant.{pace-hold, elder}
 use Rattle.link.proofs.Kept.{s-phase, s-hears, s-replies, s-arms, s-goes, s-sends, s-takes, held-rises}
 use Rattle.link.proofs.Relation.{termsOf, small-of, markOf, marks, topOf, above-top, RelS, Honest, Linked}
 use Rattle.link.proofs.Relation.{setup-timer, refresh-timer, slave-time, not-late, toldOf}
 use Rattle.link.proofs.Entries.{marks-snoc, honest-snoc, FoundAt, in-log, the-mark, marked-code, marked-stamp}
 use Rattle.link.proofs.Entries.{marked-body}
-use Rattle.link.proofs.Shown.{ShownAt, in-refresh, held-shown}
+use Rattle.link.proofs.Shown.{ShownAt, marginAt, in-refresh, held-shown}
 use Rattle.link.proofs.Codes.{refresh-not-setup, pending-setup, targetOf, leads, go-from, held-from}
 use Rattle.link.proofs.Codes.{busy-may}
 
@@ -154,8 +155,8 @@ module _ (c : Clocks) (sm ss : Settings) (p : Paired sm ss) {l : List Sent} {em 
           });
           inv = subst (λ (x : List Mark). Inv (termsOf c sm ss) (t + c .slave) x (L .master) S)
               (sym (marks-snoc l refreshing ∙ ap (snoc (marks l)) refresh-mark))
-              (s-sends (termsOf c sm ss) (small-of c sm ss p) t (t + c .slave) (es .setup .offset) (es .since) value
-              (v .value) (v .phase) refl refl
+              (s-sends (termsOf c sm ss) (small-of c sm ss p) t (t + c .slave) (es .setup .offset) (es .since)
+              (es .value .age) value (v .value) (v .phase) refl refl
               (omega arith) (L .inv));
         }
 
@@ -350,13 +351,13 @@ module _ (c : Clocks) (sm ss : Settings) (p : Paired sm ss) {l : List Sent} {em 
             ∙ sym (ap (λ (y : Command). cond (is y K.RefreshGo)
             (offsetFrom (f .timestamp) (f .baseline) (es .setup .measured)) (es .setup .offset)) e) in
             replied busy false said may n (advancedOf es t f)
-            (liveS (offsetFrom (at (marks l) k .stamp) (at (marks l) k .baseline) (es .setup .measured)) t none)
+            (liveS (offsetFrom (at (marks l) k .stamp) (at (marks l) k .baseline) (es .setup .measured)) t 0 none)
             (L .setS)
             (record {
               nextOut = q .nextOut;
               nextIn = ap suc (sym (marked-stamp f body l k g));
               held = q .held;
-              live = λ z. record { value = none; phase = ap (λ (y : ℕ). liveS y t none) off; holds = refl };
+              live = λ z. record { value = none; phase = ap (λ (y : ℕ). liveS y t 0 none) off; holds = refl };
               ready = λ z. absurd (false≢true (sym (ap (λ (y : State). isState y RefreshPending) s2) ∙ z));
             })
             (s-goes (termsOf c sm ss) (small-of c sm ss p) t (t + c .slave) k (codeOf (f .command))
@@ -408,13 +409,17 @@ module _ (c : Clocks) (sm ss : Settings) (p : Paired sm ss) {l : List Sent} {em 
     -- an S-Refresh of the master
     module _ (d : RefreshTaken es t (f .timestamp) body) (x : isExpired es t ≡ false)
         (r : is (f .command) K.Refresh ≡ true) where
-      young : NotLate (minus ((t + es .setup .offset) % span) (at (marks l) k .stamp)) (ss .age)
-      young =
-          let a : ageOf es t (f .timestamp) ≡ minus ((t + es .setup .offset) % span) (at (marks l) k .stamp) =
+      reckoned : ageOf es t (f .timestamp) ≡ minus ((t + es .setup .offset) % span) (at (marks l) k .stamp)
+      reckoned =
           ap (λ (y : ℕ). minus y (f .timestamp)) time
-          ∙ ap (minus ((t + es .setup .offset) % span)) (sym (marked-stamp f body l k g)) in
+          ∙ ap (minus ((t + es .setup .offset) % span)) (sym (marked-stamp f body l k g))
+
+      young : countedAge (minus ((t + es .setup .offset) % span) (at (marks l) k .stamp)) ≤ ss .age
+      young =
+          let a = ap countedAge reckoned in
           let h : es .settings .age ≡ ss .age = ap (λ (y : Settings). y .age) (L .setS) in
-          λ n. let z = not-late (ageOf es t (f .timestamp)) (es .settings .age) (d .young) (omega arith) in omega arith
+          let z = not-late (ageOf es t (f .timestamp)) (es .settings .age) (d .young) in
+          omega arith
 
       pub rises-s : ts ≤ k
       rises-s =
@@ -439,7 +444,9 @@ module _ (c : Clocks) (sm ss : Settings) (p : Paired sm ss) {l : List Sent} {em 
               nextIn = suc (at (marks l) k .stamp);
               held = suc k;
               phase =
-                  liveS (es .setup .offset) t (some (at (marks l) k .body));
+                  liveS (es .setup .offset) t
+                  (countedAge (minus ((t + es .setup .offset) % span) (at (marks l) k .stamp)))
+                  (some (at (marks l) k .body));
             };
             setM = L .setM;
             setS = L .setS;
@@ -450,31 +457,33 @@ module _ (c : Clocks) (sm ss : Settings) (p : Paired sm ss) {l : List Sent} {em 
               held = refl;
               live = λ z. record {
                 value = some body;
-                phase = ap
-                    (λ (y : List ℕ). liveS (es .setup .offset) t (some y)) b;
+                phase = λ j. liveS (es .setup .offset) t (countedAge (sym reckoned j)) (some (b j));
                 holds = (refl, refl, d .width);
               };
               ready = λ z. absurd (true≢false (sym (pending-setup (es .state) z) ∙ n));
             };
             honest = L .honest;
-            inv = s-takes (termsOf c sm ss) (small-of c sm ss p) t (t + c .slave) (es .setup .offset) (es .since) k
-                (v .value) (v .phase) refl refl (omega arith)
+            inv = s-takes (termsOf c sm ss) (small-of c sm ss p) t (t + c .slave) (es .setup .offset) (es .since)
+                (es .value .age) k (v .value) (v .phase) refl refl (omega arith)
                 (in-log f body l k g) marked-who ((marked-code f body l k g) ∙ eqb-true (codeOf (f .command)) 255 r)
                 (next-below (d .above)) young (L .inv);
           }
 
   -- ---- a show that is not fail-safe
   module _ (x : isExpired es t ≡ false) (n : isFailSafe es ≡ false) where
-    pub shown-s : ShownAt (marks l) 0 ts (t + c .slave) (ss .age + (ss .interval + 0)) (shownOf es)
+    pub shown-s : ShownAt (marks l) 0 ts (t + c .slave) (heldAge es t) (marginAt true sm ss) (shownOf es)
     shown-s =
+        let T = termsOf c sm ss in
         let v = L .relS .live (in-refresh es n) in
-        let w : LiveS (termsOf c sm ss) (marks l) (L .slave .nextIn) (L .slave .held) (es .setup .offset) (es .since)
-        (v .value) = subst (SPh (termsOf c sm ss) (marks l) (L .slave .nextIn) (L .slave .held)) (v .phase)
-        (L .inv .slave .phase) in
-        let a = w .at′ in
+        let w : LiveS T (t + c .slave) (marks l) (L .slave .nextIn) (L .slave .held) (es .setup .offset) (es .since)
+        (es .value .age) (v .value) =
+        subst (SPh T (t + c .slave) (marks l) (L .slave .nextIn) (L .slave .held)) (v .phase) (L .inv .slave .phase) in
         let u = refresh-timer es t x (in-refresh es n) in
         let i : es .settings .interval ≡ ss .interval = ap (λ (y : Settings). y .interval) (L .setS) in
-        subst (λ (b : ℕ). ShownAt (marks l) 0 ts (t + c .slave) b (shownOf es)) (omega arith)
-        (held-shown es (marks l) 0 (L .slave .nextIn) ts (w .m) (ss .age + wobble) (t + c .slave) (ss .interval)
-        (v .value) (L .slave .held) n (v .holds) (L .relS .held) (L .inv .slave .held) (w .value)
-        (λ k z. L .inv .log .stamped k z .past) (omega arith))
+        let s = p .ticksS .age in
+        let s′ = p .ticksS .interval in
+        held-shown es (marks l) 0 (L .slave .nextIn) ts (w .m) t (t + c .slave) (ss .interval) (marginS T)
+        (marginAt true sm ss) (v .value) (L .slave .held) n (v .holds) (L .relS .held) (L .inv .slave .held) (w .value)
+        (λ k z. L .inv .log .stamped k z .past) (pace-hold T (es .since) (w .m) t (t + c .slave) (w .at′) refl)
+        (elder T (es .since) (w .m) t (t + c .slave) (w .at′) refl (w .by-now)) (omega arith)
+        (record { most = omega arith; low = omega arith; high = omega arith; small = omega arith })

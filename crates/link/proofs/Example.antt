@@ -102,7 +102,7 @@ paired = record {
 }
 
 values : List Show
-values = shown true 5070 (1 ∷ 2 ∷ 3 ∷ 4 ∷ []) 21 21 ∷ shown false 5080 (5 ∷ 6 ∷ 7 ∷ 8 ∷ []) 22 22 ∷ []
+values = shown true 5070 (1 ∷ 2 ∷ 3 ∷ 4 ∷ []) 11 21 21 ∷ shown false 5080 (5 ∷ 6 ∷ 7 ∷ 8 ∷ []) 8 22 22 ∷ []
 
 -- both facts at once, so that the run is computed once
 abbrev told : Link → Bool × List Show

@@ -52,12 +52,13 @@ pub elder : (c : Terms) (t m t′ m′ : ℕ) → At c t m → At c t′ m′ �
 elder c t m t′ m′ p q h = omega arith
 
 -- nextOut, nextIn: one above the last stamp sent, taken (0: none); held: one above the place of the S-Refresh last
--- taken. Asked: a request of this stamp has no reply yet; which one it is the reply's own command tells
+-- taken. Asked: a request of this stamp has no reply yet; which one it is the reply's own command tells. Live: since
+-- when, and the value held with its age then; at a slave its offset comes first
 pub data MPhase : Type 0 where
   restM : MPhase
   asked : ℕ → MPhase
   got : ℕ → MPhase
-  liveM : ℕ → Option (List ℕ) → MPhase
+  liveM : ℕ → ℕ → Option (List ℕ) → MPhase
 
 pub record Master : Type 0 where
   pub nextOut : ℕ
@@ -68,7 +69,7 @@ pub record Master : Type 0 where
 pub data SPhase : Type 0 where
   restS : SPhase
   armed : ℕ → SPhase
-  liveS : ℕ → ℕ → Option (List ℕ) → SPhase
+  liveS : ℕ → ℕ → ℕ → Option (List ℕ) → SPhase
 
 pub record Slave : Type 0 where
   pub nextOut : ℕ
@@ -117,16 +118,29 @@ abbrev pub Held : List Mark → ℕ → ℕ → ℕ → Type 0
 Held l kind next zero = Unit {0}
 Held l kind next (suc k) = HeldAt l kind next k
 
--- its value, taken at moment m, at most a after its writing
-pub record ValueIs (m a : ℕ) (v : List ℕ) (w : Mark) : Type 0 where
-  pub body : w .body ≡ v
-  pub past : w .moment ≤ m
-  pub young : m ≤ w .moment + a
+-- an age kept with a value: the most that it is, and how far it may be below the true one or above it
+pub record Margin : Type 0 where
+  pub most : ℕ
+  pub low : ℕ
+  pub high : ℕ
 
-abbrev pub ValueOf : List Mark → ℕ → ℕ → ℕ → Option (List ℕ) → Type 0
-ValueOf l held m a none = Unit {0}
-ValueOf l zero m a (some v) = ⊥
-ValueOf l (suc k) m a (some v) = ValueIs m a v (at l k)
+abbrev pub marginM : Terms → Margin
+marginM c = record { most = c .ageM; low = c .tripM + wobble; high = wobble }
+
+abbrev pub marginS : Terms → Margin
+marginS c = record { most = c .ageS; low = wobble; high = c .tripM + wobble }
+
+-- its value, taken at moment m with age f
+pub record ValueIs (m f : ℕ) (a : Margin) (v : List ℕ) (w : Mark) : Type 0 where
+  pub body : w .body ≡ v
+  pub low : m ≤ w .moment + f + a .low
+  pub high : w .moment + f ≤ m + a .high
+  pub most : f ≤ a .most
+
+abbrev pub ValueOf : List Mark → ℕ → ℕ → ℕ → Margin → Option (List ℕ) → Type 0
+ValueOf l held m f a none = Unit {0}
+ValueOf l zero m f a (some v) = ⊥
+ValueOf l (suc k) m f a (some v) = ValueIs m f a v (at l k)
 
 pub record GotOf (c : Terms) (next ready : ℕ) (r : Mark) : Type 0 where
   pub who : r .who ≡ 1
@@ -135,17 +149,17 @@ pub record GotOf (c : Terms) (next ready : ℕ) (r : Mark) : Type 0 where
   pub early : r .moment ≤ ready + c .cm
   pub late : ready ≤ r .stamp + c .tripM
 
--- by the next stamp to send and the place held
-abbrev pub MPh : Terms → List Mark → ℕ → ℕ → MPhase → Type 0
-MPh c l n h restM = Unit {0}
-MPh c l n h (asked s) = suc s ≡ n
-MPh c l n h (got r) = Has (GotOf c n r) l
-MPh c l n h (liveM t v) = ValueOf l h (t + c .cm) (c .ageM + c .tripM + wobble) v
+-- by the moment, the next stamp to send and the place held; Refresh began by now, so a show counts the ticks since
+abbrev pub MPh : Terms → ℕ → List Mark → ℕ → ℕ → MPhase → Type 0
+MPh c now l n h restM = Unit {0}
+MPh c now l n h (asked s) = suc s ≡ n
+MPh c now l n h (got r) = Has (GotOf c n r) l
+MPh c now l n h (liveM t f v) = (t + c .cm ≤ now) × ValueOf l h (t + c .cm) f (marginM c) v
 
-pub record MInv (c : Terms) (l : List Mark) (m : Master) : Type 0 where
+pub record MInv (c : Terms) (now : ℕ) (l : List Mark) (m : Master) : Type 0 where
   pub out : Each (λ w. w .who ≡ 0 → w .stamp < m .nextOut) l
   pub held : Held l 2 (m .nextIn) (m .held)
-  pub phase : MPh c l (m .nextOut) (m .held) (m .phase)
+  pub phase : MPh c now l (m .nextOut) (m .held) (m .phase)
 
 pub record ArmedOf (c : Terms) (m1 s2 : ℕ) (r : Mark) : Type 0 where
   pub who : r .who ≡ 1
@@ -165,33 +179,34 @@ pub record Armed (c : Terms) (l : List Mark) (next s2 : ℕ) : Type 0 where
   pub asked′ : Has (Request m1) l
   pub top : Each (λ x. x .who ≡ 1 → x .code ≡ 252 → x .stamp ≤ m1) l
 
-pub record LiveS (c : Terms) (l : List Mark) (next held o t : ℕ) (v : Option (List ℕ)) : Type 0 where
+pub record LiveS (c : Terms) (now : ℕ) (l : List Mark) (next held o t f : ℕ) (v : Option (List ℕ)) : Type 0 where
   pub s2 : ℕ
   pub m2 : ℕ
   pub m : ℕ
   pub at2 : At c s2 m2
   pub at′ : At c t m
   pub before : m2 ≤ m
+  pub by-now : m ≤ now
   pub past : Has (λ x. m2 ≤ x .moment) l
   pub near : Near (c .cm) (c .tripM) o s2 m2
   pub some : 1 ≤ next
   pub fresh : m ≤ next + c .cm + 2 ^ 30
-  pub value : ValueOf l held m (c .ageS + wobble) v
+  pub value : ValueOf l held m f (marginS c) v
 
--- by the next stamp to take and the place held
-abbrev pub SPh : Terms → List Mark → ℕ → ℕ → SPhase → Type 0
-SPh c l n h restS = Unit {0}
-SPh c l n h (armed s2) = Armed c l n s2
-SPh c l n h (liveS o t v) = LiveS c l n h o t v
+-- by the moment, the next stamp to take and the place held
+abbrev pub SPh : Terms → ℕ → List Mark → ℕ → ℕ → SPhase → Type 0
+SPh c now l n h restS = Unit {0}
+SPh c now l n h (armed s2) = Armed c l n s2
+SPh c now l n h (liveS o t f v) = LiveS c now l n h o t f v
 
-pub record SInv (c : Terms) (l : List Mark) (s : Slave) : Type 0 where
+pub record SInv (c : Terms) (now : ℕ) (l : List Mark) (s : Slave) : Type 0 where
   pub replies : Each (λ w. w .who ≡ 1 → w .stamp < s .nextIn) l
   pub sent : Each (λ w. w .who ≡ 2 → w .stamp < s .nextOut) l
   pub seen : (k : ℕ) → s .nextIn ≡ suc k → Has (λ w. (w .who ≡ 0) × (w .stamp ≡ k)) l
   pub held : Held l 0 (s .nextIn) (s .held)
-  pub phase : SPh c l (s .nextIn) (s .held) (s .phase)
+  pub phase : SPh c now l (s .nextIn) (s .held) (s .phase)
 
 pub record Inv (c : Terms) (now : ℕ) (l : List Mark) (m : Master) (s : Slave) : Type 0 where
   pub log : LogInv c now l
-  pub master : MInv c l m
-  pub slave : SInv c l s
+  pub master : MInv c now l m
+  pub slave : SInv c now l s

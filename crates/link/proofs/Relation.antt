@@ -21,14 +21,14 @@ use Rattle.endpoint.specs.declared.Queue.{Queue}
 use Rattle.endpoint.specs.declared.Station.{Station}
 use Rattle.endpoint.specs.Endpoint.{Value, Words, Endpoint}
 use Rattle.endpoint.specs.Table.{isState, isSetup}
-use Rattle.endpoint.specs.Time.{span, half, masterTime, isAbove, isTooFarAhead, isTooLate, isExpired}
+use Rattle.endpoint.specs.Time.{span, half, masterTime, isAbove, isTooFarAhead, countedAge, isTooLate, isExpired}
 use Rattle.endpoint.specs.Time.{timeOf}
 use Rattle.endpoint.specs.Updates.{endpointOf, withQueue}
 use Rattle.steps.specs.Frames.{showWidth}
 use Rattle.steps.specs.Frames.{paddedOf}
 use Rattle.link.specs.Runs.{Clocks, Sent, sentAt}
 use Rattle.link.specs.Fresh.{Paired}
-use Rattle.link.proofs.Ages.{compared, le-or-lt, NotLate}
+use Rattle.link.proofs.Ages.{compared, le-or-lt}
 use Rattle.link.proofs.Marks.{Mark, mark}
 use Rattle.link.proofs.Invariant.{limit, Terms, Small, asked, got, liveM, Master, armed, liveS, Slave, Inv}
 
@@ -89,7 +89,7 @@ Holds s v (some b) = (v .taken ≡ true) × (v .bytes ≡ paddedOf b) × (length
 -- ---- a master
 pub record LiveAtM (e : Endpoint) (m : Master) : Type 0 where
   pub value : Option (List ℕ)
-  pub phase : m .phase ≡ liveM (e .since) value
+  pub phase : m .phase ≡ liveM (e .since) (e .value .age) value
   pub holds : Holds (e .settings) (e .value) value
 
 pub record AskedAt (e : Endpoint) (m : Master) (s : ℕ) : Type 0 where
@@ -111,7 +111,7 @@ pub record RelM (e : Endpoint) (took : ℕ) (m : Master) : Type 0 where
 -- ---- a slave
 pub record LiveAtS (e : Endpoint) (s : Slave) : Type 0 where
   pub value : Option (List ℕ)
-  pub phase : s .phase ≡ liveS (e .setup .offset) (e .since) value
+  pub phase : s .phase ≡ liveS (e .setup .offset) (e .since) (e .value .age) value
   pub holds : Holds (e .settings) (e .value) value
 
 pub record ArmedAt (e : Endpoint) (s : Slave) : Type 0 where
@@ -182,17 +182,17 @@ pub slave-time : (e : Endpoint) (t : ℕ) → e .settings .slave ≡ true → ti
 slave-time e t h = ap (λ (b : Bool). masterTime b (e .setup .offset) t) h
 
 -- ---- an age that is neither too far ahead nor too late
--- what is refused: an age above the limit that is not ahead, and one that is ahead by more than the allowance
-pub late-refused : (age limit : ℕ) → age < half → limit < age → isTooLate age limit ≡ true
-late-refused age limit h k = simp compared
+-- what is refused: an age above the limit, and one that is ahead by more than the allowance
+late-refused : (age limit : ℕ) → limit < countedAge age → isTooLate age limit ≡ true
+late-refused age limit h = simp compared
 
-pub ahead-refused : (age allowance : ℕ) → half ≤ age → allowance < span - age → isTooFarAhead age allowance ≡ true
+ahead-refused : (age allowance : ℕ) → half ≤ age → allowance < span - age → isTooFarAhead age allowance ≡ true
 ahead-refused age allowance h k = simp compared
 
--- so an age that is taken is
-pub not-late : (age limit : ℕ) → isTooLate age limit ≡ false → NotLate age limit
-not-late age limit late h = ⊎-elim (λ p. p) (λ p. absurd (true≢false (sym (late-refused age limit h p) ∙ late)))
-    (le-or-lt age limit)
+-- so an age that is taken is neither
+pub not-late : (age limit : ℕ) → isTooLate age limit ≡ false → countedAge age ≤ limit
+not-late age limit late = ⊎-elim (λ p. p) (λ p. absurd (true≢false (sym (late-refused age limit p) ∙ late)))
+    (le-or-lt (countedAge age) limit)
 
 pub not-ahead : (age allowance : ℕ) → isTooFarAhead age allowance ≡ false → half ≤ age → span - age ≤ allowance
 not-ahead age allowance far h = ⊎-elim (λ p. p)

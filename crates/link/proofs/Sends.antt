@@ -14,19 +14,20 @@ use Rattle.frame.specs.declared.Command.the-variants as K
 use Rattle.frame.specs.declared.Fields.{Fields}
 use Rattle.frame.specs.Control.{is, codeOf}
 use Rattle.endpoint.specs.declared.Settings.{Settings}
-use Rattle.link.specs.Runs.{Sent, noSent, sentAt, Show, noShow, showAt}
-use Rattle.link.specs.Fresh.{boundOf, ItsSend}
+use Rattle.endpoint.specs.Time.{boundOf}
+use Rattle.link.specs.Runs.{Sent, noSent, sentAt, Show, shown, noShow, showAt}
+use Rattle.link.specs.Fresh.{Paired, ItsSend}
 use Rattle.link.proofs.Marks.{Mark, at}
 use Rattle.link.proofs.Relation.{whoOf, marks, Honest}
 use Rattle.link.proofs.Entries.{size-marks, at-marks}
-use Rattle.link.proofs.Shown.{ShownAt}
+use Rattle.link.proofs.Shown.{ShownAt, marginAt}
 
 pub record HasSend (sm ss : Settings) (log : List Sent) (x : Show) : Type 0 where
   pub place : ℕ
   pub sent : x .sent ≡ suc place
   pub early : place < x .written
   pub known : x .written ≤ length log
-  pub fits : ItsSend (boundOf (cond (x .slave) ss sm)) x (sentAt log place)
+  pub fits : ItsSend (cond (x .slave) ss sm) (sm .roundtrip) x (sentAt log place)
 
 pub record ShowsInv (sm ss : Settings) (log : List Sent) (tm ts : ℕ) (shows : List Show) : Type 0 where
   pub its : (i : ℕ) → i < length shows → HasSend sm ss log (showAt shows i)
@@ -57,7 +58,7 @@ module _ (sm ss : Settings) where
           sent = s .sent;
           early = s .early;
           known = omega arith;
-          fits = subst (ItsSend (boundOf (cond (showAt shows i .slave) ss sm)) (showAt shows i))
+          fits = subst (ItsSend (cond (showAt shows i .slave) ss sm) (sm .roundtrip) (showAt shows i))
               (sym (entry-kept log ext (s .place) (omega arith))) (s .fits);
         };
     below = λ i j. let a = v .below i j in let b = cond-le (showAt shows i .slave) ts ts′ tm tm′ k h in omega arith;
@@ -135,11 +136,17 @@ pub writer-of : (slave : Bool) (f : Fields) → whoOf f ≡ cond slave 0 2 → f
 writer-of true f h = kind-slave (f .application) (is (f .command) K.Refresh) h
 writer-of false f h = kind-master (f .application) (is (f .command) K.Refresh) h
 
-pub sent-by : (sm ss : Settings) (log : List Sent) (slave : Bool) (took m : ℕ) (bytes : List ℕ)
+-- the highest age, and how far it may be below the true one, are within the bound
+within : (sm ss : Settings) → Paired sm ss → (slave : Bool)
+    → cond slave ss sm .age + cond slave ss sm .interval + cond slave 0 (sm .roundtrip) ≤ boundOf (cond slave ss sm)
+within sm ss p true = rw (p .slave) (omega arith)
+within sm ss p false = rw (p .master) (omega arith)
+
+pub sent-by : (sm ss : Settings) → Paired sm ss → (log : List Sent) (slave : Bool) (took m age : ℕ) (bytes : List ℕ)
     → ((i : ℕ) → i < length log → Honest (sentAt log i))
-    → ShownAt (marks log) (cond slave 0 2) took m (boundOf (cond slave ss sm)) bytes
-    → HasSend sm ss log (record { slave = slave; moment = m; bytes = bytes; sent = took; written = length log })
-sent-by sm ss log slave took m bytes honest s =
+    → ShownAt (marks log) (cond slave 0 2) took m age (marginAt slave sm ss) bytes
+    → HasSend sm ss log (shown slave m bytes age took (length log))
+sent-by sm ss p log slave took m age bytes honest s =
     let k = s .place in
     let n : k < length log = let z = s .there in let y = size-marks log in omega arith in
     let q = at-marks log k n in
@@ -149,7 +156,10 @@ sent-by sm ss log slave took m bytes honest s =
     eq-eqb (codeOf (sentAt log k .fields .command)) 255 (sym (ap (λ (y : Mark). y .code) q) ∙ s .code) in
     let o : at (marks log) k .moment ≡ sentAt log k .moment = ap (λ (y : Mark). y .moment) q in
     let a = s .past in
-    let b = s .young in
+    let lo = s .low in
+    let hi = s .high in
+    let most = s .most in
+    let b = within sm ss p slave in
     record {
       place = k;
       sent = s .held;
@@ -159,7 +169,12 @@ sent-by sm ss log slave took m bytes honest s =
         other = sym (h .writer) ∙ writer-of slave (sentAt log k .fields) w;
         refresh = r;
         value = h .value r ∙ ap some (sym (ap (λ (y : Mark). y .body) q) ∙ s .body);
-        before = omega arith;
-        young = omega arith;
+        aged = record {
+          before = omega arith;
+          young = omega arith;
+          low = omega arith;
+          high = omega arith;
+          most = most;
+        };
       };
     }

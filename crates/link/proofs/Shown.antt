@@ -1,27 +1,46 @@
--- What is shown: the body of the S-Refresh last taken.
+-- What is shown: the body of the S-Refresh last taken, and its age.
 use mathlib.Core.Path.{_≡_, sym, ap, _∙_}
-use mathlib.Core.Bool.{Bool, true, false, _&&_, true≢false}
+use mathlib.Core.Bool.{Bool, true, false, _&&_, cond, true≢false}
 use mathlib.Core.List.{List, _++_}
 use mathlib.Core.Option.{Option, some, none}
-use Prim.Native.Nat.{ℕ, zero, suc, _+_, _≤_, _<_}
+use Prim.Native.Nat.{ℕ, zero, suc, _+_, _-_, _^_, _≤_, _<_}
 use native.Mathlib.Omega.{arith}
 use lib.ListN.{length, take, drop, replicate}
 use lib.Seq.{take-all, take-at}
 use borrow.Author.Tests.{not-false}
 use mathlib.Mathlib.Data.Bool.Basic.{and-elim-left as and-left, and-elim-right as and-right}
+use Rattle.endpoint.specs.declared.Settings.{Settings}
 use Rattle.endpoint.specs.declared.State.the-variants.{Refresh}
 use Rattle.endpoint.specs.Endpoint.{Endpoint}
 use Rattle.endpoint.specs.Table.{isState}
+use Rattle.endpoint.specs.Time.{heldAge}
 use Rattle.steps.specs.Frames.{showWidth}
 use Rattle.steps.specs.Calls.{isFailSafe, heldOr, shownOf}
 use Rattle.steps.specs.Frames.{paddedOf}
 use Rattle.steps.proofs.Shows.{show-width-le}
 use Rattle.link.proofs.Marks.{Mark, size, at}
-use Rattle.link.proofs.Invariant.{Held, ValueOf}
+use Rattle.link.proofs.Ages.{Pace}
+use Rattle.link.proofs.Invariant.{creep, Held, Margin, ValueOf}
 use Rattle.link.proofs.Relation.{Holds}
 
--- a value shown at moment m: the place of its frame, and how old that is
-pub record ShownAt (l : List Mark) (kind took m bound : ℕ) (v : List ℕ) : Type 0 where
+-- the margin of a shown age, by the settings of both ends
+abbrev pub marginAt : Bool → Settings → Settings → Margin
+marginAt slave sm ss = record {
+  most = cond slave ss sm .age + cond slave ss sm .interval;
+  low = cond slave 0 (sm .roundtrip);
+  high = cond slave (sm .roundtrip) 0;
+}
+
+-- a margin when the value is taken, and one that serves for i ticks more
+pub record HeldFor (i : ℕ) (a b : Margin) : Type 0 where
+  pub most : a .most + i ≤ b .most
+  pub low : a .low + creep ≤ b .low
+  pub high : a .high + creep ≤ b .high
+  -- so no age overflows
+  pub small : b .most < 2 ^ 64
+
+-- a value shown at moment m with age f: the place of its frame, and how old that is
+pub record ShownAt (l : List Mark) (kind took m f : ℕ) (a : Margin) (v : List ℕ) : Type 0 where
   pub place : ℕ
   pub held : took ≡ suc place
   pub there : place < size l
@@ -29,21 +48,9 @@ pub record ShownAt (l : List Mark) (kind took m bound : ℕ) (v : List ℕ) : Ty
   pub code : at l place .code ≡ 255
   pub body : at l place .body ≡ v
   pub past : at l place .moment ≤ m
-  pub young : m ≤ at l place .moment + bound
-
--- a higher bound is kept too
-pub shown-within : {l : List Mark} {kind took m bound : ℕ} {v : List ℕ} (b : ℕ) → bound ≤ b
-    → ShownAt l kind took m bound v → ShownAt l kind took m b v
-shown-within b h s = record {
-  place = s .place;
-  held = s .held;
-  there = s .there;
-  who = s .who;
-  code = s .code;
-  body = s .body;
-  past = s .past;
-  young = omega arith;
-}
+  pub low : m ≤ at l place .moment + f + a .low
+  pub high : at l place .moment + f ≤ m + a .high
+  pub most : f ≤ a .most
 
 pub in-refresh : (e : Endpoint) → isFailSafe e ≡ false → isState (e .state) Refresh ≡ true
 in-refresh e h = and-left (isState (e .state) Refresh) (e .value .taken)
@@ -65,20 +72,26 @@ shown-is e b h v =
     ∙ ap (take (showWidth (e .settings))) (v .1)
     ∙ front-padded b (showWidth (e .settings)) (v .2) (show-width-le (e .settings))
 
--- a value taken at moment r, at most a after its writing, and shown at m, at most i after that
-pub held-shown : (e : Endpoint) (l : List Mark) (kind next took r a m i : ℕ) (v : Option (List ℕ)) (h : ℕ)
-    → isFailSafe e ≡ false → Holds (e .settings) (e .value) v → took ≡ h → Held l kind next h → ValueOf l h r a v
-    → ((k : ℕ) → k < size l → at l k .moment ≤ m) → m ≤ r + i
-    → ShownAt l kind took m (a + i) (shownOf e)
-held-shown e l kind next took r a m i none h n o q g w past late = absurd (true≢false (sym (is-taken e n) ∙ o))
-held-shown e l kind next took r a m i (some b) zero n o q g w past late = absurd w
-held-shown e l kind next took r a m i (some b) (suc k) n o q g w past late = record {
-  place = k;
-  held = q;
-  there = g .there;
-  who = g .fits .who;
-  code = g .fits .code;
-  body = w .body ∙ sym (shown-is e b n o);
-  past = past k (g .there);
-  young = let y = w .young in omega arith;
-}
+-- a value taken at moment r, when the timer started, and shown at clock reading t and moment m
+pub held-shown : (e : Endpoint) (l : List Mark) (kind next took r t m i : ℕ) (a b : Margin) (v : Option (List ℕ))
+    (h : ℕ) → isFailSafe e ≡ false → Holds (e .settings) (e .value) v → took ≡ h → Held l kind next h
+    → ValueOf l h r (e .value .age) a v → ((k : ℕ) → k < size l → at l k .moment ≤ m)
+    → Pace creep (e .since) r t m → e .since ≤ t → t ≤ e .since + i → HeldFor i a b
+    → ShownAt l kind took m (heldAge e t) b (shownOf e)
+held-shown e l kind next took r t m i a b none h n o q g w past p k late x =
+    absurd (true≢false (sym (is-taken e n) ∙ o))
+held-shown e l kind next took r t m i a b (some v) zero n o q g w past p k late x = absurd w
+held-shown e l kind next took r t m i a b (some v) (suc j) n o q g w past p k late x =
+    let f : heldAge e t ≡ e .value .age + (t - e .since) = omega arith in
+    record {
+      place = j;
+      held = q;
+      there = g .there;
+      who = g .fits .who;
+      code = g .fits .code;
+      body = w .body ∙ sym (shown-is e v n o);
+      past = past j (g .there);
+      low = omega arith;
+      high = omega arith;
+      most = omega arith;
+    }

@@ -14,7 +14,7 @@ use Rattle.endpoint.specs.declared.Settings.{Settings}
 use Rattle.endpoint.specs.Endpoint.{Endpoint}
 use Rattle.endpoint.specs.declared.Answer.{Answer}
 use Rattle.endpoint.specs.Answers.{isDone}
-use Rattle.endpoint.specs.Time.{lastReading}
+use Rattle.endpoint.specs.Time.{lastReading, heldAge}
 use Rattle.transitions.specs.ByCall.{freshOf}
 use Rattle.steps.specs.Frames.{Written, nothing, frame, sentFields}
 use Rattle.steps.specs.Frames as W
@@ -101,16 +101,19 @@ pub record Show : Type 0 where
   pub slave : Bool
   pub moment : ℕ
   pub bytes : List ℕ
+  -- the age that it is shown with, in ticks
+  pub age : ℕ
   -- one more than the place of the S-Refresh that this end last took
   pub sent : ℕ
   -- how many frames had been written by then
   pub written : ℕ
 
-abbrev pub shown : Bool → ℕ → List ℕ → ℕ → ℕ → Show
-shown slave moment bytes sent n = record { slave = slave; moment = moment; bytes = bytes; sent = sent; written = n }
+abbrev pub shown : Bool → ℕ → List ℕ → ℕ → ℕ → ℕ → Show
+shown slave moment bytes age sent n =
+    record { slave = slave; moment = moment; bytes = bytes; age = age; sent = sent; written = n }
 
 abbrev pub noShow : Show
-noShow = shown false 0 [] 0 0
+noShow = shown false 0 [] 0 0 0
 
 unfoldable pub showAt : List Show → ℕ → Show
 showAt l i = getD l i noShow
@@ -148,12 +151,12 @@ tookBy l (send value) a last = last
 tookBy l (deliver f body) a last = cond (isDone a && is (f .command) K.Refresh) (lastOf f body l) last
 tookBy l show a last = last
 
-abbrev pub shownBy : Bool → ℕ → ℕ → ℕ → Call → Endpoint → List Show
-shownBy slave m took n (act a) e = []
-shownBy slave m took n (send value) e = []
-shownBy slave m took n (deliver f body) e = []
-shownBy slave m took n show e =
-    cond (isFailSafe e) [] (shown slave m (shownOf e) took n ∷ [])
+abbrev pub shownBy : Bool → ℕ → ℕ → ℕ → ℕ → Call → Endpoint → List Show
+shownBy slave m t took n (act a) e = []
+shownBy slave m t took n (send value) e = []
+shownBy slave m t took n (deliver f body) e = []
+shownBy slave m t took n show e =
+    cond (isFailSafe e) [] (shown slave m (shownOf e) (heldAge e t) took n ∷ [])
 
 -- the endpoint at an end, and the place last taken there, after a call at the slave's end or the master's
 abbrev pub endpointAfter : Bool → Link → Bool → Outcome → Endpoint
@@ -174,7 +177,7 @@ afterCall c l slave t call o =
       master = endpointAfter false l slave o;
       slave = endpointAfter true l slave o;
       log = l .log ++ logged slave m call (o .writes);
-      shows = l .shows ++ shownBy slave m (tookAt l slave) (length (l .log)) call (o .endpoint);
+      shows = l .shows ++ shownBy slave m t (tookAt l slave) (length (l .log)) call (o .endpoint);
       masterTook = tookAfter false l slave call o;
       slaveTook = tookAfter true l slave call o;
       latest = m;

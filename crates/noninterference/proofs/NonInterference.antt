@@ -31,7 +31,7 @@ use Rattle.endpoint.specs.Answers.{isDone}
 use Rattle.endpoint.specs.Time.{isExpired, endedOf, afterTick}
 use Rattle.transitions.specs.ByCall.{freshOf}
 use Rattle.steps.specs.Frames as W
-use Rattle.steps.specs.Calls.{Outcome, sendOf, isFailSafe, shownOf}
+use Rattle.steps.specs.Calls.{Outcome, sendOf, isFailSafe, shownOf, shownAge}
 use Rattle.steps.specs.Deliveries.{deliverOf}
 use Rattle.steps.specs.Laws.{Carries}
 use Rattle.steps.specs.Steps as S
@@ -72,6 +72,7 @@ module _ (P : ErrorRecord → ErrorRecord) (one : OneToOne P) where
       answer = refl;
       entry = refl;
       failsafe = refl;
+      age = refl;
       count = refl;
       writes = ExchangedWritten.same;
       lent = clock-both P d d′ D t;
@@ -97,6 +98,7 @@ module _ (P : ErrorRecord → ErrorRecord) (one : OneToOne P) where
       answer = B .answer;
       entry = refl;
       failsafe = refl;
+      age = refl;
       count = count-both P one c (B .writes);
       writes = written-both P one c (endpointAt d n) r (B .writes);
       lent = placed-both P _ _ (step-both P d d′ D t) n (recordOf (o .endpoint)) (recordOf (o′ .endpoint))
@@ -145,6 +147,7 @@ module _ (P : ErrorRecord → ErrorRecord) (one : OneToOne P) where
           answer = refl;
           entry = refl;
           failsafe = shown-same isFailSafe (λ x e. refl) n;
+          age = shown-same (λ e. shownAge e t) (λ x e. refl) n;
           count = ap length v;
           writes = subst (λ (l : List ℕ). ExchangedWritten P c (W.value (shownOf y)) (W.value l)) (sym v)
               (ExchangedWritten.values (shownOf y));

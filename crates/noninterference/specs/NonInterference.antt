@@ -129,6 +129,7 @@ module _ (P : ErrorRecord → ErrorRecord) where
     pub answer : r′ .answer ≡ r .answer
     pub entry : r′ .entry ≡ r .entry
     pub failsafe : r′ .failsafe ≡ r .failsafe
+    pub age : r′ .age ≡ r .age
     pub count : length (W.bytesOf (r′ .writes)) ≡ length (W.bytesOf (r .writes))
     pub writes : ExchangedWritten c (r .writes) (r′ .writes)
     pub lent : ExchangedLent (r .lent) (r′ .lent)

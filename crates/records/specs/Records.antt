@@ -15,7 +15,7 @@ use Rattle.endpoint.specs.declared.Pending.{Pending}
 use Rattle.endpoint.specs.declared.Pending.the-variants.{Nothing, Asked}
 use Rattle.endpoint.specs.declared.Queue.{Queue}
 use Rattle.endpoint.specs.declared.Queue.the-variants.{Empty, InvokeFunc, ReadErrorInfo, WriteErrorInfo, Closed}
-use Rattle.endpoint.specs.Endpoint.{Endpoint, noBytes, noRecord, wordsOf}
+use Rattle.endpoint.specs.Endpoint.{Endpoint, noBytes, noRecord, wordsOf, valueOf}
 use Rattle.endpoint.specs.Table.{rowOf}
 use Rattle.endpoint.specs.Time.{endedOf, Tidy}
 use Rattle.records.specs.declared.Stored.{Stored}
@@ -111,7 +111,7 @@ wholeOf s bytes words errorinfo = record {
   station = record { notready = isSet (s .notready) };
   words = wordsOf (s .words) words;
   errorinfo = wordsOf (s .errorinfo) errorinfo;
-  value = record { taken = isSet (s .taken); bytes = bytes };
+  value = valueOf (isSet (s .taken)) (s .valueage) bytes;
 }
 
 -- the same with all three left out: what a call that does not touch them starts from
@@ -153,6 +153,7 @@ storedOf e = record {
   words = e .words .count;
   errorinfo = e .errorinfo .count;
   taken = flagOf (e .value .taken);
+  valueage = e .value .age;
 }
 
 abbrev pub recordWith : Stored → List ℕ → List ℕ → List ℕ → Record
@@ -190,6 +191,7 @@ endedStored s = record {
   words = s .words;
   errorinfo = s .errorinfo;
   taken = 0;
+  valueage = 0;
 }
 
 abbrev pub endedRecord : Record → Record

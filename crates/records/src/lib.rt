@@ -46,6 +46,8 @@ pub struct Stored {
     // s2 or m2, and ts_offset
     pub measured: u64,
     pub offset: u64,
+    // how old the value was when it was accepted, in ticks
+    pub valueage: u64,
     pub hassent: u8,
     pub hasaccepted: u8,
     pub hasasked: u8,
@@ -235,6 +237,7 @@ pub fn core_of(s: Stored) -> Core
         words: s.words,
         errorinfo: s.errorinfo,
         taken: s.taken != 0,
+        valueage: s.valueage,
     }
 }
 
@@ -275,6 +278,7 @@ pub fn stored_of(e: Core) -> Stored
         words: e.words,
         errorinfo: e.errorinfo,
         taken: flag_of(e.taken),
+        valueage: e.valueage,
     }
 }
 
@@ -286,6 +290,7 @@ pub fn ended(s: Stored) -> Stored
     next.state = 8;
     next.queue = 0;
     next.taken = 0;
+    next.valueage = 0;
     next
 }
 

@@ -7,6 +7,7 @@ ghost use mathlib.Core.Path.{_≡_};
 ghost use Prim.Native.Nat.{_≤_};
 ghost use lib.ListN.{length};
 ghost use Rattle.io.specs.Counts.{Counts};
+use endpoint::Age;
 use gateway::Call;
 use gateway::Called;
 use gateway::Gateway;
@@ -19,16 +20,18 @@ use text::Act;
 use text::Kind;
 use text::Line;
 use text::Parameter;
+use text::lines::Input;
+use text::lines::first_input;
+use text::lines::front;
+use text::lines::refilled;
+use text::lines::take_line;
 
-// The records and the gateway; how many of the records, and how long an output, calls are lent; the place of the line
-// in the input, counted from 1; how many of its bytes have come; and whether to go on.
+// The records and the gateway; how many of the records, and how long an output, calls are lent; and whether to go on.
 struct Replay {
     records: [Record; 70],
     gateway: Gateway,
     lent: usize,
     room: usize,
-    place: u64,
-    length: usize,
     going: bool,
 }
 
@@ -88,6 +91,7 @@ fn blank() -> Record {
             words: 0,
             errorinfo: 0,
             taken: 0,
+            valueage: 0,
         },
         value: [0; 100],
         words: [0; 100],
@@ -111,6 +115,13 @@ fn text_entry(named: u8, entry: usize) -> text::Entry {
     text::Entry::At(entry)
 }
 
+fn text_age(aged: u8, age: u64) -> Age {
+    if aged == 0 {
+        return Age::None;
+    }
+    Age::Ticks(age)
+}
+
 fn print(text: &[u8], n: usize) -> bool {
     let k = within(n, text);
     io::write_all(STDOUT_FILENO, &text[..k])
@@ -127,6 +138,7 @@ fn print_answer(called: Called, out: &[u8]) -> bool {
         text_entry(called.named, called.entry),
         called.count,
         called.failsafe != 0,
+        text_age(called.aged, called.age),
         dirty,
         &out[..n],
     );
@@ -151,8 +163,6 @@ fn after(r: Replay, answered: Answered, out: &[u8]) -> Replay {
         gateway: gateway,
         lent: r.lent,
         room: r.room,
-        place: r.place,
-        length: r.length,
         going: print_answer(called, out),
     }
 }
@@ -359,8 +369,8 @@ fn set(r: Replay, parameter: Parameter, n: usize) -> Replay {
     next
 }
 
-// One line, without its newline, with an output to lend.
-fn run(r: Replay, line: &[u8], out: &mut [u8]) -> Replay {
+// The line at a place of the input, without its newline, with an output to lend.
+fn run(r: Replay, place: u64, line: &[u8], out: &mut [u8]) -> Replay {
     let gateway = r.gateway;
     let parsed = text::parse::parse(line);
     match parsed {
@@ -394,71 +404,35 @@ fn run(r: Replay, line: &[u8], out: &mut [u8]) -> Replay {
         Line::Check { start } => with_going(r, check(line, start)),
         Line::Set { parameter, n } => set(r, parameter, n),
         Line::Nothing => r,
-        Line::Wrong => with_going(r, wrong(r.place)),
+        Line::Wrong => with_going(r, wrong(place)),
     }
 }
 
-fn run_lent(r: Replay, line: &[u8]) -> Replay {
+fn run_lent(r: Replay, place: u64, line: &[u8]) -> Replay {
     let mut out = filled();
     let n = within(r.room, &out);
-    run(r, line, &mut out[..n])
+    run(r, place, line, &mut out[..n])
 }
 
-// The line that has come is run, and the next one begins.
-fn run_line(r: Replay, line: &[u8]) -> Replay {
-    if !r.going {
-        return r;
+// The line is run where it is whole. At the input's end there is nothing more to do.
+fn run_line(r: Replay, input: Input, line: &[u8]) -> Replay {
+    let mut next = r;
+    if input.whole {
+        next = run_lent(r, input.place, front(line, input.length));
     }
-    let n = within(r.length, line);
-    let mut next = run_lent(r, &line[..n]);
-    next.place = std::num::wrapping_add_u64(next.place, 1);
-    next.length = 0;
+    if input.ended {
+        next.going = false;
+    }
     next
 }
 
-// One byte more of the line; past the longest line it is skipped, and the line is then no call.
-fn keep(line: &mut [u8], n: usize, byte: u8) -> usize {
-    if n < line.len() {
-        line[n] = byte;
-        return n + 1;
+// What is left of the buffer is taken up to the end of a line; where nothing is left, the buffer is filled.
+fn read_on(input: Input, buffer: &mut [u8], line: &mut [u8]) -> Input {
+    if input.from < input.to {
+        return take_line(input, buffer, line);
     }
-    n
-}
-
-// The state is handed on once a line: it is large.
-fn take_bytes(r: Replay, bytes: &[u8], line: &mut [u8]) -> Replay {
-    let mut after = r;
-    let mut i = 0;
-    while i < bytes.len() {
-        if bytes[i] == 10 {
-            after = run_line(after, line);
-        } else {
-            let n = keep(line, after.length, bytes[i]);
-            after.length = n;
-        }
-        i += 1;
-    }
-    after
-}
-
-// At the input's end the last line may lack its newline.
-fn finish(r: Replay, line: &[u8]) -> Replay {
-    let mut after = r;
-    if r.length > 0 {
-        after = run_line(r, line);
-    }
-    with_going(after, false)
-}
-
-// Reads once, and runs the lines that came.
-fn read_some(r: Replay, line: &mut [u8]) -> Replay {
-    let mut bytes = io::buffer();
-    let got = libc::read(STDIN_FILENO, &mut bytes);
-    let n = io::count(got, &bytes);
-    if n == 0 {
-        return finish(r, line);
-    }
-    take_bytes(r, &bytes[..n], line)
+    let got = libc::read(STDIN_FILENO, buffer);
+    refilled(input, io::count(got, buffer))
 }
 
 // A proved loop has to end, and nothing says that the input does: the turns count down from a number that no input
@@ -466,18 +440,19 @@ fn read_some(r: Replay, line: &mut [u8]) -> Replay {
 fn main() {
     // one byte more than the longest line, so that a longer one is seen
     let mut line = [0u8; 4097];
+    let mut buffer = io::buffer();
+    let mut input = first_input();
     let mut r = Replay {
         records: [blank(); 70],
         gateway: Gateway { last: 0, count: 0 },
         lent: 64,
         room: 248,
-        place: 1,
-        length: 0,
         going: true,
     };
     let mut turns = u64::MAX;
     while turns > 0 && r.going {
-        r = read_some(r, &mut line);
+        input = read_on(input, &mut buffer, &mut line);
+        r = run_line(r, input, &line);
         turns -= 1;
     }
 }

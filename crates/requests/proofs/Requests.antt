@@ -148,7 +148,7 @@ module _ (n : ℕ) (d : Lent) (count : ℕ) (H : Held n d count) (t : ℕ) where
 
     called : {c : Call} → A.Reach d t room c → After c
     called {c = c} (A.nowhere a x s q) =
-        idle c (result a x nothing false (afterClock t d)) q clocked (not-started s) refl
+        idle c (result a x nothing (afterClock t d)) q clocked (not-started s) refl
     called (A.showing k q) =
         idle (show k) (shownIn (afterTick (endpointAt d k) t) t k d) q ticked refl refl
     called {c = c} (A.stepping by k f q l) = bcase (eqb k n) (own c by k f q l) (other c by k f q l)

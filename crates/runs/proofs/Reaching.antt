@@ -116,7 +116,7 @@ pub data Still : Call → Answer → Type 0 where
 -- what a call comes to: the clock step, and that is all; a show of the connection at k; or that connection's step
 pub data Reach (d : Lent) (t room : ℕ) : Call → Type 0 where
   nowhere : {c : Call} (a : Answer) (x : Entry) → Still c a
-      → callIn d t room c ≡ result a x nothing false (afterClock t d) → Reach d t room c
+      → callIn d t room c ≡ result a x nothing (afterClock t d) → Reach d t room c
   showing : (k : ℕ) → callIn d t room (show k) ≡ shownIn (afterTick (endpointAt d k) t) t k d
       → Reach d t room (show k)
   stepping : {c : Call} (by : S.Call) (k : ℕ) → For d c by k → callIn d t room c ≡ actedOf (does d t by k) t k d

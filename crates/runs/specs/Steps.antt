@@ -47,7 +47,7 @@ callIn d t room (show n) = showIn d t room n
 
 -- a load has no entry and writes nothing
 abbrev pub stepIn : Lent → Step → Result
-stepIn d (load ws rs) = result (loadedOf ws rs .answer) Absent nothing false (loadedOf ws rs .lent)
+stepIn d (load ws rs) = result (loadedOf ws rs .answer) Absent nothing (loadedOf ws rs .lent)
 stepIn d (call t room c) = callIn d t room c
 
 -- a call's entry is the one at n

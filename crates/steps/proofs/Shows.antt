@@ -14,7 +14,7 @@ use Rattle.endpoint.specs.declared.Settings.{Settings}
 use Rattle.endpoint.specs.Endpoint.{Endpoint}
 use Rattle.steps.specs.declared.Shown.{Shown}
 use Rattle.steps.specs.Frames.{showWidth}
-use Rattle.steps.specs.Calls.{isFailSafe, shownOf}
+use Rattle.steps.specs.Calls.{isFailSafe, shownOf, shownAge}
 use Rattle.steps.specs.Says.{ShowSays}
 use Rattle.steps.proofs.Keeps.{bcase}
 use Rattle.steps.proofs.Whole.{show-width-length}
@@ -24,22 +24,25 @@ show-width-le s =
     leb-true (showWidth s) 100
     (and-left (leb (showWidth s) 100) _ (and-right (leb 4 (showWidth s)) _ (show-width-length s)))
 
-module _ (e : Endpoint) (out : List ℕ) where
-  pub no-room : (r : Shown) → length out < 248 → r .count ≡ 0 → r .failsafe ≡ isFailSafe e → ShowSays e out out r
+module _ (e : Endpoint) (t : ℕ) (out : List ℕ) where
+  pub no-room : (r : Shown) → length out < 248 → r .count ≡ 0 → r .failsafe ≡ isFailSafe e → r .age ≡ shownAge e t
+      → ShowSays e t out out r
   unfolding over
-  no-room r h n m = let t = lt-ltb (length out) 248 h in record { counted = rw t n; marked = m; output = rw t }
+  no-room r h n m g = let s = lt-ltb (length out) 248 h in record
+      { counted = rw s n; marked = m; aged = g; output = rw s }
 
   pub shown : (r : Shown) (x : List ℕ) {out′ : List ℕ} → 248 ≤ length out → r .count ≤ length x
-      → take (r .count) x ≡ shownOf e → r .failsafe ≡ isFailSafe e
-      → out′ ≡ take (r .count) x ++ drop (r .count) out → ShowSays e out out′ r
+      → take (r .count) x ≡ shownOf e → r .failsafe ≡ isFailSafe e → r .age ≡ shownAge e t
+      → out′ ≡ take (r .count) x ++ drop (r .count) out → ShowSays e t out out′ r
   unfolding over
-  shown r x h n k m o =
-      let t = le-ltb (length out) 248 h in
+  shown r x h n k m g o =
+      let l = le-ltb (length out) 248 h in
       let s : r .count ≡ length (shownOf e) = sym (length-take-le (r .count) x n) ∙ ap length k in
       record {
-        counted = rw t s;
+        counted = rw l s;
         marked = m;
-        output = rw t (o ∙ ap₂ (λ (y : List ℕ) (z : ℕ). y ++ drop z out) k s);
+        aged = g;
+        output = rw l (o ∙ ap₂ (λ (y : List ℕ) (z : ℕ). y ++ drop z out) k s);
       }
 
 -- the smaller of a list's length and n

@@ -8,7 +8,7 @@ use Rattle.frame.specs.declared.Command.the-variants as K
 use Rattle.frame.specs.declared.Fields.{Fields}
 use Rattle.frame.specs.Control.{is}
 use Rattle.endpoint.specs.declared.State.the-variants.{Close, Refresh}
-use Rattle.endpoint.specs.Endpoint.{Endpoint, wordsOf}
+use Rattle.endpoint.specs.Endpoint.{Endpoint, wordsOf, valueOf}
 use Rattle.endpoint.specs.declared.Reason.{Reason}
 use Rattle.endpoint.specs.declared.Reason.the-variants as R
 use Rattle.endpoint.specs.declared.Answer.{Answer}
@@ -17,7 +17,7 @@ use Rattle.endpoint.specs.Answers.{recordFaults, firstOf, isDone, isDropped, le
 use Rattle.endpoint.specs.Table.{isState, isTerminated}
 use Rattle.endpoint.specs.Due.{isCommandDue, isHeldBack, mayQueue, mayQueueRead}
 use Rattle.errors.specs.Reading.{isRecord, moreFollows}
-use Rattle.endpoint.specs.Time.{noValue, Tidy, endedOf, afterTick, isExpired}
+use Rattle.endpoint.specs.Time.{ageOf, countedAge, noValue, Tidy, endedOf, afterTick, isExpired}
 use Rattle.endpoint.specs.Updates.{holding, withWords, withErrorInfo, withNotReady}
 use Rattle.transitions.specs.ByCall.{startedOf, restartedOf, requestedOf, refreshSentOf, stoppedOf, invokedOf}
 use Rattle.transitions.specs.ByCall.{readQueuedOf, writeQueuedOf}
@@ -63,10 +63,10 @@ module _ (e : Endpoint) (b : List ℕ) (h : Tidy (withBytes b e)) where
   wiped a x w =
       record { answered = refl; writes = refl; left = refl; taken = λ p n. absurd (true≢false (sym p)) }
 
-  filled : {k : Call} (x : Endpoint) (w : Written) → accepts k Done ≡ true
-      → let y = holding (record { taken = true; bytes = paddedOf (bodyIn k) }) x in
+  filled : {k : Call} (age : ℕ) (x : Endpoint) (w : Written) → accepts k Done ≡ true
+      → let y = holding (valueOf true age (paddedOf (bodyIn k))) x in
       Left k (outcome Done y w) (outcome Done y w)
-  filled x w y =
+  filled age x w y =
       record { answered = refl; writes = refl; left = rw y; taken = λ p n. absurd (true≢false (sym y ∙ n)) }
 
   -- ---- which of its ends a call comes to: by a test, also of what it leaves, and by its answer
@@ -141,7 +141,7 @@ module _ (e : Endpoint) (b : List ℕ) (h : Tidy (withBytes b e)) where
           (takeRefresh (withBytes b e) t (f .timestamp) body)
       refresh-left y =
           by-answer (firstOf (refreshFaults e t (f .timestamp) (length body))) (endedOf e)
-          (filled (refreshedOf e t (f .timestamp) (paddedOf body)) nothing y)
+          (filled (countedAge (ageOf e t (f .timestamp))) (refreshedOf e t (f .timestamp) (paddedOf body)) nothing y)
 
       abbrev more : Bool
       more = moreFollows body

@@ -11,6 +11,8 @@ use Rattle.words.specs.Words.{wordBytes}
 use Rattle.errors.specs.Reading.{isRecord}
 use Rattle.endpoint.specs.declared.State.the-variants.{Close, Refresh}
 use Rattle.endpoint.specs.Endpoint.{Endpoint, Words, wordsOf}
+use Rattle.endpoint.specs.declared.Age.{Age}
+use Rattle.endpoint.specs.declared.Age.the-variants.{None, Ticks}
 use Rattle.endpoint.specs.declared.Reason.the-variants as R
 use Rattle.endpoint.specs.declared.Answer.{Answer}
 use Rattle.endpoint.specs.declared.Answer.the-variants.{Done, Dropped}
@@ -18,7 +20,7 @@ use Rattle.endpoint.specs.declared.Faults.{Faults}
 use Rattle.endpoint.specs.Answers.{callFaults, recordFaults, firstOf, isDone, isDropped, leftBy}
 use Rattle.endpoint.specs.Table.{isState, isTerminated}
 use Rattle.endpoint.specs.Due.{mayRequest, isExhausted, mayQueue, mayQueueRead}
-use Rattle.endpoint.specs.Time.{isAbove, endedOf, timeOf}
+use Rattle.endpoint.specs.Time.{isAbove, heldAge, endedOf, timeOf}
 use Rattle.endpoint.specs.Updates.{withWords, withErrorInfo, withNotReady}
 use Rattle.transitions.specs.ByCall.{startedOf, restartedOf, requestedOf, refreshSentOf, stoppedOf, invokedOf}
 use Rattle.transitions.specs.ByCall.{readQueuedOf, writeQueuedOf}
@@ -171,3 +173,7 @@ heldOr safe bytes = cond safe (replicate 100 0) bytes
 
 abbrev pub shownOf : Endpoint → List ℕ
 shownOf e = take (showWidth (e .settings)) (heldOr (isFailSafe e) (e .value .bytes))
+
+-- and how old it is; a fail-safe show has no age
+abbrev pub shownAge : Endpoint → ℕ → Age
+shownAge e t = cond (isFailSafe e) None (Ticks (heldAge e t))

@@ -30,12 +30,17 @@ use Rattle.steps.specs.Frames.{paddedOf}
 use Rattle.steps.specs.Calls.{Outcome, outcome, dropped}
 
 -- ---- S-Refresh, at either end
-abbrev pub refreshFaults : Endpoint → ℕ → ℕ → ℕ → Faults
-refreshFaults e t stamp width =
+-- whose timestamp has this age
+abbrev pub refreshFaultsAt : Endpoint → ℕ → ℕ → ℕ → Faults
+refreshFaultsAt e age stamp width =
     valueFaults (not (isState (e .state) Refresh)) (not (eqb width (showWidth (e .settings))))
     (not (isAbove (e .timestamps .accepted) stamp))
-    (isTooFarAhead (ageOf e t stamp) (allowanceOf (e .settings)))
-    (isTooLate (ageOf e t stamp) (e .settings .age))
+    (isTooFarAhead age (allowanceOf (e .settings)))
+    (isTooLate age (e .settings .age))
+
+-- the same, by the endpoint's time
+abbrev pub refreshFaults : Endpoint → ℕ → ℕ → ℕ → Faults
+refreshFaults e t stamp width = refreshFaultsAt e (ageOf e t stamp) stamp width
 
 abbrev pub takeRefresh : Endpoint → ℕ → ℕ → List ℕ → Outcome
 takeRefresh e t stamp body =

@@ -15,7 +15,7 @@ use Rattle.steps.specs.declared.Stepped.{Stepped}
 use Rattle.steps.specs.declared.Shown.{Shown}
 use Rattle.steps.specs.declared.Body.{Body}
 use Rattle.steps.specs.Frames.{bytesOf}
-use Rattle.steps.specs.Calls.{Outcome, dropped, isFailSafe, shownOf}
+use Rattle.steps.specs.Calls.{Outcome, dropped, isFailSafe, shownOf, shownAge}
 
 -- number 2: the lent output is under 248 bytes
 abbrev pub withRoom : ℕ → Endpoint → Outcome → Outcome
@@ -48,7 +48,8 @@ pub record StepSays (o : Outcome) (out out′ : List ℕ) (r : Stepped) : Type 0
 abbrev pub shownTo : ℕ → Endpoint → List ℕ
 shownTo room e = cond (ltb room 248) [] (shownOf e)
 
-pub record ShowSays (e : Endpoint) (out out′ : List ℕ) (r : Shown) : Type 0 where
+pub record ShowSays (e : Endpoint) (t : ℕ) (out out′ : List ℕ) (r : Shown) : Type 0 where
   pub counted : r .count ≡ length (shownTo (length out) e)
   pub marked : r .failsafe ≡ isFailSafe e
+  pub aged : r .age ≡ shownAge e t
   pub output : out′ ≡ over (shownTo (length out) e) out

@@ -8,7 +8,7 @@ use Prim.Native.Nat.{ℕ}
 use lib.ListN.{replicate}
 use Rattle.frame.specs.declared.Command.the-variants as K
 use Rattle.frame.specs.Control.{is}
-use Rattle.endpoint.specs.Endpoint.{Endpoint, wordsOf}
+use Rattle.endpoint.specs.Endpoint.{Endpoint, wordsOf, valueOf}
 use Rattle.endpoint.specs.declared.Answer.{Answer}
 use Rattle.endpoint.specs.Answers.{isDone}
 use Rattle.endpoint.specs.Table.{requestOf}
@@ -22,7 +22,7 @@ use Rattle.steps.specs.Steps.{Call, act, send, deliver, show, stepOf}
 
 -- an endpoint whose value has other bytes
 abbrev pub withBytes : List ℕ → Endpoint → Endpoint
-withBytes b e = holding (record { taken = e .value .taken; bytes = b }) e
+withBytes b e = holding (valueOf (e .value .taken) (e .value .age) b) e
 
 abbrev pub isShow : Call → Bool
 isShow (act a) = false

@@ -8,7 +8,7 @@ ghost use lib.ListN.{length};
 ghost use Rattle.frame.specs.declared.Command.the-variants as K;
 ghost use Rattle.frame.specs.Control.{is};
 ghost use Rattle.endpoint.specs.Answers.{firstOf};
-ghost use Rattle.steps.specs.Deliveries.{refreshFaults, takeRefresh, isTurn, lacksRecord, isWidth, isUsers};
+ghost use Rattle.steps.specs.Deliveries.{refreshFaultsAt, takeRefresh, isTurn, lacksRecord, isWidth, isUsers};
 ghost use Rattle.steps.specs.Deliveries.{isExpected, requestFaults, takeRequest, isResult, repliesRecord};
 ghost use Rattle.steps.specs.Deliveries.{replyFaults, takeReply, deliverOf};
 ghost use Rattle.steps.specs.Says.{plainStep, withRoom, StepSays};
@@ -45,6 +45,7 @@ use endpoint::table::is_state;
 use endpoint::table::next_state;
 use endpoint::time::age_of;
 use endpoint::time::allowance;
+use endpoint::time::counted_age;
 use endpoint::time::is_above;
 use endpoint::time::is_too_far_ahead;
 use endpoint::time::is_too_late;
@@ -61,8 +62,9 @@ use transitions::by_frame::heard;
 use transitions::by_frame::refreshed;
 use transitions::by_frame::taken;
 
-fn refresh_answer(e: Core, clock: u64, stamp: u64, width: usize) -> Answer
-    ensures { λ r. ⌜ r ≡ firstOf (refreshFaults (bare e) clock stamp width) ⌝ }
+// Of an S-Refresh whose timestamp has this age.
+fn refresh_answer(e: Core, age: u64, stamp: u64, width: usize) -> Answer
+    ensures { λ r. ⌜ r ≡ firstOf (refreshFaultsAt (bare e) age stamp width) ⌝ }
 {
     let state = e.state;
     let settings = e.settings;
@@ -71,7 +73,6 @@ fn refresh_answer(e: Core, clock: u64, stamp: u64, width: usize) -> Answer
     let refresh = is_state(state, State::Refresh);
     let due = show_width(settings);
     let above = is_above(last, stamp);
-    let age = age_of(e, clock, stamp);
     let ahead = is_too_far_ahead(age, allowance(settings));
     let late = is_too_late(age, settings.age);
     first_of(value_faults(!refresh, width != due, !above, ahead, late))
@@ -81,9 +82,14 @@ fn refresh_answer(e: Core, clock: u64, stamp: u64, width: usize) -> Answer
 fn take_refresh(e: Core, clock: u64, stamp: u64, body: &[u8]) -> Stepped
     ensures { λ r. ⌜ r ≡ plainStep (takeRefresh (bare e) clock stamp (now (body .entry))) ⌝ }
 {
-    let answer = refresh_answer(e, clock, stamp, body.len());
+    let age = age_of(e, clock, stamp);
+    let answer = refresh_answer(e, age, stamp, body.len());
     if is_done(answer) {
-        return stepped(Answer::Done, refreshed(e, clock, stamp), 0);
+        return stepped(
+            Answer::Done,
+            refreshed(e, clock, stamp, counted_age(age)),
+            0,
+        );
     }
     refused(answer, e)
 }

@@ -9,6 +9,7 @@ pub mod send;
 pub mod show;
 pub mod station;
 
+use endpoint::Age;
 use endpoint::Answer;
 use endpoint::Core;
 
@@ -19,10 +20,11 @@ pub struct Stepped {
     pub count: usize,
 }
 
-// A show's count of bytes, and the mark 'fail-safe'.
+// A show's count of bytes, the mark 'fail-safe', and the age of the value.
 pub struct Shown {
     pub count: usize,
     pub failsafe: bool,
+    pub age: Age,
 }
 
 // S-Data: the first length bytes.

@@ -7,14 +7,16 @@ ghost use Prim.Native.Nat.{_≤_};
 ghost use lib.Dec.{ltb};
 ghost use lib.ListN.{length, take, drop};
 ghost use Rattle.words.specs.Output.{over};
-ghost use Rattle.steps.specs.Calls.{isFailSafe};
+ghost use Rattle.steps.specs.Calls.{isFailSafe, shownAge};
 ghost use Rattle.steps.specs.Says.{ShowSays};
 ghost use Rattle.steps.specs.Values.{withBytes};
 use super::Shown;
 use super::frames::show_width;
+use endpoint::Age;
 use endpoint::Core;
 use endpoint::State;
 use endpoint::table::is_state;
+use endpoint::time::held_age;
 use frame::LONGEST_FRAME;
 
 fn is_fail_safe(e: Core) -> bool
@@ -42,16 +44,28 @@ fn smaller(a: usize, b: usize) -> usize
     if a < b { a } else { b }
 }
 
-// The value of the other end's last S-Refresh in this Refresh, held in these bytes; else zero bytes of the same width,
-// and the mark.
-pub fn show(e: Core, value: &[u8], out: &mut [u8]) -> Shown
-    ensures { λ r. ⌜ ShowSays (withBytes (now (value .entry)) (bare e)) (now (out .entry)) (now (out .exit)) r ⌝ }
+// How old what is shown is.
+fn shown_age(e: Core, clock: u64) -> Age
+    ensures { λ r. ⌜ r ≡ shownAge (bare e) clock ⌝ }
+{
+    if is_fail_safe(e) {
+        return Age::None;
+    }
+    Age::Ticks(held_age(e, clock))
+}
+
+// The value of the other end's last S-Refresh in this Refresh, held in these bytes, and its age; else zero bytes of the
+// same width, and the mark.
+pub fn show(e: Core, clock: u64, value: &[u8], out: &mut [u8]) -> Shown
+    ensures { λ r. ⌜ ShowSays (withBytes (now (value .entry)) (bare e)) clock (now (out .entry)) (now (out .exit)) r ⌝ }
 {
     let safe = is_fail_safe(e);
+    let age = shown_age(e, clock);
     if out.len() < LONGEST_FRAME {
         return Shown {
             count: 0,
             failsafe: safe,
+            age: age,
         };
     }
     let settings = e.settings;
@@ -62,6 +76,7 @@ pub fn show(e: Core, value: &[u8], out: &mut [u8]) -> Shown
         return Shown {
             count: n,
             failsafe: true,
+            age: age,
         };
     }
     let k = smaller(value.len(), n);
@@ -69,5 +84,6 @@ pub fn show(e: Core, value: &[u8], out: &mut [u8]) -> Shown
     Shown {
         count: k,
         failsafe: false,
+        age: age,
     }
 }

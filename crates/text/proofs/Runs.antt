@@ -105,15 +105,29 @@ hex-some [] h = absurd (h refl)
 hex-some (b ∷ s) h = refl
 
 -- ---- a row of texts
+pub puts-none : {o : List ℕ} {k : ℕ} → Puts o k [] o k
+puts-none {o} {k} = record { bytes = sym (put-none o k); end = sym (add-zero k) }
+
 pub puts-one : {o : List ℕ} {k a : ℕ} {o₁ : List ℕ} → o₁ ≡ put o k (a ∷ []) → Puts o k (a ∷ []) o₁ (k + 1)
 puts-one e = record { bytes = e; end = refl }
 
 pub puts-two : {o : List ℕ} {k a b : ℕ} {o₁ : List ℕ} → o₁ ≡ put o k (a ∷ b ∷ []) → Puts o k (a ∷ b ∷ []) o₁ (k + 2)
 puts-two e = record { bytes = e; end = refl }
 
+pub puts-digits : {o : List ℕ} {k : ℕ} (w n : ℕ) {o₁ : List ℕ} → o₁ ≡ put o k (lastDigits w n)
+    → Puts o k (lastDigits w n) o₁ (k + w)
+puts-digits {o} {k} w n e = record { bytes = e; end = ap (λ (m : ℕ). k + m) (sym (length-last w n)) }
+
 -- the same place after the text, written otherwise
 pub puts-at : {o : List ℕ} {k : ℕ} {a o₁ : List ℕ} {m n : ℕ} → Puts o k a o₁ m → n ≡ m → Puts o k a o₁ n
 puts-at p e = record { bytes = p .bytes; end = e ∙ p .end }
+
+-- the same text, written otherwise
+pub puts-as : {o : List ℕ} {k : ℕ} {a b o₁ : List ℕ} {n : ℕ} → Puts o k a o₁ n → a ≡ b → Puts o k b o₁ n
+puts-as {o} {k} p e = record {
+  bytes = p .bytes ∙ ap (put o k) e;
+  end = p .end ∙ ap (λ (l : List ℕ). k + length l) e;
+}
 
 pub follow : {o : List ℕ} {k : ℕ} {a o₁ : List ℕ} {m : ℕ} {b o₂ : List ℕ} {n : ℕ}
     → Puts o k a o₁ m → Puts o₁ m b o₂ n → m ≤ length o → Puts o k (a ++ b) o₂ n

@@ -2,8 +2,6 @@
 use mathlib.Core.Bool.{Bool, _&&_, _||_, cond}
 use mathlib.Core.List.{List, [], _∷_}
 use Prim.Native.Nat.{ℕ, _-_}
-use Prim.Native.Char.{code}
-use Prim.Native.String.{String, [] as []ˢ, _∷_ as _∷ˢ_}
 use lib.Dec.{eqb, leb, ltb}
 use lib.ListN.{length, getD}
 use Rattle.words.specs.Bytes.{same}
@@ -22,14 +20,10 @@ use Rattle.text.specs.declared.parse.Pair.{Pair}
 use Rattle.text.specs.declared.parse.Pair.the-variants.{Both, Broken}
 use Rattle.text.specs.declared.number.Number.{Number}
 use Rattle.text.specs.declared.number.Number.the-variants.{Value, Invalid}
+use Rattle.text.specs.Printing.{bytesOf}
 use Rattle.text.specs.Reading.{wordIn, restOf, numberOf, isHex, isFrame, isWord, wordAt, isLoad}
 
 -- ---- the name that a word is
--- the bytes of an ASCII text
-unfoldable pub bytesOf : String → List ℕ
-bytesOf []ˢ = []
-bytesOf (c ∷ˢ s) = code c ∷ bytesOf s
-
 -- the words that begin a call, and what each names
 unfoldable pub names : List (List ℕ × Name)
 names =

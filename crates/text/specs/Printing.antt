@@ -3,9 +3,13 @@ use mathlib.Core.Path.{_≡_}
 use mathlib.Core.Bool.{Bool, true, _&&_, cond}
 use mathlib.Core.List.{List, [], _∷_, _++_}
 use Prim.Native.Nat.{ℕ, zero, suc, _+_, _/_, _%_, _≤_}
+use Prim.Native.Char.{code}
+use Prim.Native.String.{String, [] as []ˢ, _∷_ as _∷ˢ_}
 use lib.Dec.{eqb, leb, ltb}
 use lib.ListN.{length}
 use Rattle.words.specs.Output.{put, over}
+use Rattle.endpoint.specs.declared.Age.{Age}
+use Rattle.endpoint.specs.declared.Age.the-variants.{None, Ticks}
 use Rattle.text.specs.declared.Entry.{Entry}
 use Rattle.text.specs.declared.Entry.the-variants.{Absent, At}
 
@@ -38,7 +42,12 @@ unfoldable pub hexText : List ℕ → List ℕ
 hexText [] = 45 ∷ []
 hexText (b ∷ s) = hexOf (b ∷ s)
 
--- ---- lines
+-- ---- words and lines
+-- the bytes of an ASCII text
+unfoldable pub bytesOf : String → List ℕ
+bytesOf []ˢ = []
+bytesOf (c ∷ˢ s) = code c ∷ bytesOf s
+
 -- a word and the space after it
 unfoldable pub word : List ℕ → List ℕ
 word s = s ++ (32 ∷ [])
@@ -51,15 +60,20 @@ entryText (At entry) = digitsOf entry
 abbrev pub markText : Bool → List ℕ
 markText mark = cond mark 49 48 ∷ []
 
+-- the age of a shown value in ticks, after a space; nothing where none is told
+unfoldable pub ageText : Age → List ℕ
+ageText None = []
+ageText (Ticks n) = (32 ∷ []) ++ digitsOf n
+
 -- ` DIRTY` where a byte past those written was changed; the newline
 abbrev pub endText : Bool → List ℕ
 endText dirty = cond dirty (32 ∷ 68 ∷ 73 ∷ 82 ∷ 84 ∷ 89 ∷ 10 ∷ []) (10 ∷ [])
 
--- NUMBER ENTRY COUNT MARK HEX
-unfoldable pub answerText : ℕ → Entry → ℕ → Bool → Bool → List ℕ → List ℕ
-answerText number entry count mark dirty bytes =
+-- NUMBER ENTRY COUNT MARK HEX, and AGE where one is told
+unfoldable pub answerText : ℕ → Entry → ℕ → Bool → Age → Bool → List ℕ → List ℕ
+answerText number entry count mark age dirty bytes =
     word (digitsOf number) ++ word (entryText entry) ++ word (digitsOf count) ++ word (markText mark)
-    ++ hexText bytes ++ endText dirty
+    ++ hexText bytes ++ ageText age ++ endText dirty
 
 unfoldable pub checkText : ℕ → List ℕ
 checkText number = digitsOf number ++ (10 ∷ [])

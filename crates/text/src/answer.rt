@@ -2,13 +2,14 @@
 ghost use mathlib.Core.Path.{_≡_};
 ghost use Prim.Native.Nat.{_+_, _*_, _≤_};
 ghost use lib.ListN.{length, drop};
-ghost use Rattle.text.specs.Printing.{digitsOf, hexText, word, entryText, markText, endText, answerText};
-ghost use Rattle.text.specs.Printing.{checkText, wrongText, every, isFill, Puts, Written};
+ghost use Rattle.text.specs.Printing.{digitsOf, hexText, word, entryText, markText, ageText, endText};
+ghost use Rattle.text.specs.Printing.{answerText, checkText, wrongText, every, isFill, Puts, Written};
 use super::Entry;
 use super::put::put_byte;
 use super::put::put_decimal;
 use super::put::put_hex;
 use super::put::put_two;
+use endpoint::Age;
 
 // The number n and a space at k, and the place after them.
 fn put_number(out: &mut [u8], k: usize, n: u64) -> usize
@@ -62,6 +63,20 @@ fn put_bytes(out: &mut [u8], k: usize, bytes: &[u8]) -> usize
     k + 2 * n
 }
 
+// The age at k where one is told, and the place after it.
+fn put_age(out: &mut [u8], k: usize, age: Age) -> usize
+    requires { ⌜ k + 21 ≤ length (now out) ⌝ }
+    ensures { λ r. ⌜ (Puts (now (out .entry)) k (ageText age) (now (out .exit)) r) × (r ≤ k + 21) ⌝ }
+{
+    match age {
+        Age::None => k,
+        Age::Ticks(n) => {
+            put_byte(out, k, 32);
+            put_decimal(out, k + 1, n)
+        }
+    }
+}
+
 // The end of a line at k, and the place after it.
 fn put_end(out: &mut [u8], k: usize, dirty: bool) -> usize
     requires { ⌜ k + 7 ≤ length (now out) ⌝ }
@@ -85,23 +100,25 @@ fn put_line(
     entry: Entry,
     count: usize,
     mark: bool,
+    age: Age,
     dirty: bool,
     bytes: &[u8],
 ) -> usize
-    requires { ⌜ 80 + 2 * length (now bytes) ≤ length (now out) ⌝ }
-    ensures { λ r. ⌜ (Puts (now (out .entry)) 0 (answerText number entry count mark dirty (now (bytes .entry)))
+    requires { ⌜ 101 + 2 * length (now bytes) ≤ length (now out) ⌝ }
+    ensures { λ r. ⌜ (Puts (now (out .entry)) 0 (answerText number entry count mark age dirty (now (bytes .entry)))
         (now (out .exit)) r)
-        × (r ≤ 80 + 2 * length (now (bytes .entry))) ⌝ }
+        × (r ≤ 101 + 2 * length (now (bytes .entry))) ⌝ }
 {
     let a = put_number(out, 0, number as u64);
     let b = put_entry(out, a, entry);
     let c = put_number(out, b, count as u64);
     let d = put_mark(out, c, mark);
     let e = put_bytes(out, d, bytes);
-    put_end(out, e, dirty)
+    let f = put_age(out, e, age);
+    put_end(out, f, dirty)
 }
 
-// The answer to a call over the front of out, and its length. Where out is shorter than 80 bytes and two for each
+// The answer to a call over the front of out, and its length. Where out is shorter than 101 bytes and two for each
 // byte written, nothing is put and the count is 0.
 pub fn put_answer(
     out: &mut [u8],
@@ -109,20 +126,21 @@ pub fn put_answer(
     entry: Entry,
     count: usize,
     mark: bool,
+    age: Age,
     dirty: bool,
     written: &[u8],
 ) -> usize
-    ensures { λ r. ⌜ Written (80 + 2 * length (now (written .entry)))
-        (answerText number entry count mark dirty (now (written .entry))) (now (out .entry)) (now (out .exit)) r ⌝ }
+    ensures { λ r. ⌜ Written (101 + 2 * length (now (written .entry)))
+        (answerText number entry count mark age dirty (now (written .entry))) (now (out .entry)) (now (out .exit)) r ⌝ }
 {
     let n = out.len();
-    if n < 80 {
+    if n < 101 {
         return 0;
     }
-    if (n - 80) / 2 < written.len() {
+    if (n - 101) / 2 < written.len() {
         return 0;
     }
-    put_line(out, number, entry, count, mark, dirty, written)
+    put_line(out, number, entry, count, mark, age, dirty, written)
 }
 
 // The answer to the frame check alone over the front of out, and its length. Where out is shorter than 24 bytes,

@@ -1,8 +1,10 @@
-// Call lists as text: a line read as a call, and the text of an answer. What is written stands at the front of lent
-// memory.
+// Call lists as text: a line read as a call, the text of an answer, and that of a bound on ages. What is written stands
+// at the front of lent memory.
 
 pub mod answer;
+pub mod bounds;
 pub mod hex;
+pub mod lines;
 mod number;
 pub mod parse;
 mod put;

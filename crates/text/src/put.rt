@@ -1,10 +1,11 @@
-// Pieces of text put into a lent output: bytes, decimal numbers, hexadecimal digits.
+// Pieces of text put into a lent output: bytes, texts, decimal numbers, hexadecimal digits.
 ghost use mathlib.Core.Path.{_≡_};
 ghost use mathlib.Core.List.{[], _∷_};
 ghost use Prim.Native.Nat.{_+_, _*_, _/_, _%_, _≤_, _<_};
 ghost use lib.ListN.{length};
 ghost use Rattle.words.specs.Output.{put};
 ghost use Rattle.text.specs.Printing.{lastDigits, widthFrom, digitsOf, hexDigit, hexOf, Puts};
+use bytes::copy;
 
 // The byte b at k.
 pub(crate) fn put_byte(out: &mut [u8], k: usize, b: u8)
@@ -23,6 +24,14 @@ pub(crate) fn put_two(out: &mut [u8], k: usize, a: u8, b: u8)
     out[k + 1] = b;
 }
 
+// The text at k, and the place after it.
+pub(crate) fn put_text(out: &mut [u8], k: usize, text: &[u8]) -> usize
+    requires { ⌜ k + length (now text) ≤ length (now out) ⌝ }
+    ensures { λ r. ⌜ Puts (now (out .entry)) k (now (text .entry)) (now (out .exit)) r ⌝ }
+{
+    k + copy(text, &mut out[k..])
+}
+
 fn width(n: u64) -> usize
     ensures { λ r. ⌜ (r ≡ widthFrom 19 n) × (r ≤ 20) ⌝ }
 {
@@ -39,7 +48,7 @@ fn width(n: u64) -> usize
 }
 
 // The last w decimal digits of n at k.
-fn put_digits(out: &mut [u8], k: usize, w: usize, n: u64)
+pub(crate) fn put_digits(out: &mut [u8], k: usize, w: usize, n: u64)
     requires { ⌜ k + w ≤ length (now out) ⌝ }
     ensures { λ _. ⌜ now (out .exit) ≡ put (now (out .entry)) k (lastDigits w n) ⌝ }
 {

@@ -9,17 +9,21 @@ use Rattle.frame.specs.Control.{is}
 use Rattle.endpoint.specs.declared.State.the-variants.{Terminate, TerminateMore}
 use Rattle.endpoint.specs.declared.Pending.the-variants.{Nothing}
 use Rattle.endpoint.specs.declared.Queue.the-variants.{Empty}
-use Rattle.endpoint.specs.Endpoint.{Endpoint}
+use Rattle.endpoint.specs.Endpoint.{Endpoint, valueOf}
 use Rattle.endpoint.specs.Table.{nextOf, stateTo}
 use Rattle.endpoint.specs.Due.{isCommandDue, requestDue, isHeldBack}
-use Rattle.endpoint.specs.Time.{offsetFrom, noValue, endedOf}
+use Rattle.endpoint.specs.Time.{ageOf, countedAge, offsetFrom, noValue, endedOf}
 use Rattle.endpoint.specs.Updates.{inState, timedFrom, withAccepted, withPending, withMeasured, withOffset, withQueue}
 use Rattle.endpoint.specs.Updates.{holding}
 
 -- ---- S-Refresh, at either end
+-- its value, of this age, is held
+abbrev pub refreshedAt : Endpoint → ℕ → ℕ → ℕ → List ℕ → Endpoint
+refreshedAt e t stamp age bytes = timedFrom t (withAccepted stamp (holding (valueOf true age bytes) e))
+
+-- the same, with the age that its timestamp counts as
 abbrev pub refreshedOf : Endpoint → ℕ → ℕ → List ℕ → Endpoint
-refreshedOf e t stamp bytes =
-    timedFrom t (withAccepted stamp (holding (record { taken = true; bytes = bytes }) e))
+refreshedOf e t stamp bytes = refreshedAt e t stamp (countedAge (ageOf e t stamp)) bytes
 
 -- ---- a request at a slave
 -- ended, and the frame's timestamp counts as accepted

@@ -46,6 +46,7 @@ pub fn fresh(s: Settings) -> Core
         words: 0,
         errorinfo: 0,
         taken: false,
+        valueage: 0,
     }
 }
 
@@ -58,6 +59,7 @@ pub fn started(e: Core, clock: u64) -> Core
     next.setup.requests = 0;
     next.setup.invoked = false;
     next.taken = false;
+    next.valueage = 0;
     next
 }
 
@@ -66,6 +68,7 @@ pub fn restarted(e: Core) -> Core
 {
     let mut next = in_state(State::Close, e);
     next.taken = false;
+    next.valueage = 0;
     next
 }
 

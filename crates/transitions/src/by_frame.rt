@@ -1,7 +1,7 @@
 // What a frame of this connection that is taken leaves: each step is what it changes.
 ghost use mathlib.Core.Path.{_≡_};
 ghost use Rattle.endpoint.specs.Endpoint.{noBytes, bare, coreOf};
-ghost use Rattle.transitions.specs.ByFrame.{refreshedOf, endedBy, measuredBy, offsetBy, advancedOf};
+ghost use Rattle.transitions.specs.ByFrame.{refreshedAt, endedBy, measuredBy, offsetBy, advancedOf};
 ghost use Rattle.transitions.specs.ByFrame.{deferredOf, answeredOf, reportedOf, takenOf, confirmedOf, dueAgainOf};
 ghost use Rattle.transitions.specs.ByFrame.{performedOf, heardOf};
 use endpoint::Core;
@@ -23,13 +23,14 @@ use frame::Command;
 use frame::Fields;
 use frame::control::is;
 
-// The value's bytes are kept by the caller.
-pub fn refreshed(e: Core, clock: u64, stamp: u64) -> Core
-    ensures { λ r. ⌜ r ≡ coreOf (refreshedOf (bare e) clock stamp noBytes) ⌝ }
+// A value of this age was accepted; its bytes are kept by the caller.
+pub fn refreshed(e: Core, clock: u64, stamp: u64, age: u64) -> Core
+    ensures { λ r. ⌜ r ≡ coreOf (refreshedAt (bare e) clock stamp age noBytes) ⌝ }
 {
     let mut next = with_accepted(stamp, e);
     next.since = clock;
     next.taken = true;
+    next.valueage = age;
     next
 }
 
@@ -72,6 +73,7 @@ fn advanced(e: Core, clock: u64, f: Fields) -> Core
     next.setup.measured = s2;
     next.setup.offset = offset;
     next.taken = false;
+    next.valueage = 0;
     next
 }
 
@@ -131,6 +133,7 @@ fn confirmed(e: Core, clock: u64) -> Core
     next.since = clock;
     next.setup.measured = m2;
     next.taken = false;
+    next.valueage = 0;
     next
 }
 

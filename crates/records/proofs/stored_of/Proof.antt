@@ -51,6 +51,7 @@ returns c =
       words = e .words;
       errorinfo = e .errorinfo;
       taken = c .flag-of7 .ensures i;
+      valueage = e .valueage;
     }
 
 pub stored-of-spec : {M : Type 1} → statement M

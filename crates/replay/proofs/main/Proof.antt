@@ -6,10 +6,10 @@ use Rattle.replay.proofs.main.Statement.{statement}
 use Rattle.replay.proofs.main.Tie as tie
 
 abbrev Inv-loop : tie.InvT-loop
-Inv-loop line₀ r₀ turns₀ line r turns = length line ≡ 4097
+Inv-loop line₀ buffer₀ input₀ r₀ turns₀ line buffer input r turns = (length line ≡ 4097) × (length buffer ≡ 4096)
 
 abbrev μ-loop : tie.MeasureT-loop
-μ-loop line₀ r₀ turns₀ line r turns = turns
+μ-loop line₀ buffer₀ input₀ r₀ turns₀ line buffer input r turns = turns
 
 pub main-spec : {M : Type 1} → statement M
 main-spec =
@@ -18,7 +18,12 @@ main-spec =
     Inv-loop
     μ-loop
     (λ c κs. search needs)
+    (λ c κs. search needs)
+    (λ c κs. search needs)
     (λ c. search needs)
+    (λ c. search needs)
+    (λ c. search needs)
+    (λ c κs. search needs)
     (λ c. search needs)
     (λ c κs. search needs)
     (λ c. search needs)

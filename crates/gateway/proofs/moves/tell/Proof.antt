@@ -5,16 +5,23 @@ use Rattle.gateway.proofs.moves.tell.Tie as tie
 
 returns : tie.Need-returns
 returns c =
+    let f = c .before .before in
     rw (
-      c .flag-of2 .ensures,
-      c .before .number .ensures,
-      c .before .before .flag-of .ensures,
+      c .flag-of3 .ensures,
+      c .before .is-aged .ensures,
+      f .flag-of2 .ensures,
+      f .before .number .ensures,
+      f .before .before .flag-of .ensures,
+      f .before .before .before .ticks-in .ensures,
     )
 
 pub tell-spec : {M : Type 1} → statement M
 tell-spec =
     tie.close
     (tie.spec
+    (λ c κs. search needs)
+    (λ c κs. search needs)
+    (λ c κs. search needs)
     (λ c κs. search needs)
     (λ c κs. search needs)
     (λ c κs. search needs)

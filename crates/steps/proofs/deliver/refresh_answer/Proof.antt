@@ -7,14 +7,13 @@ returns : tie.Need-returns
 returns c =
     let l = c .before .before in
     let g = l .before .before in
-    let s = g .before .before in
+    let s = g .before in
     rw (
       c .first-of .ensures,
       c .before .value-faults .ensures,
       l .is-too-late .ensures,
       l .before .is-too-far-ahead .ensures,
       g .allowance .ensures,
-      g .before .age-of .ensures,
       s .is-above .ensures,
       s .before .show-width .ensures,
       s .before .before .is-state .ensures,
@@ -24,7 +23,6 @@ pub refresh-answer-spec : {M : Type 1} → statement M
 refresh-answer-spec =
     tie.close
     (tie.spec
-    (λ c κs. search needs)
     (λ c κs. search needs)
     (λ c κs. search needs)
     (λ c κs. search needs)

@@ -14,14 +14,16 @@ use Rattle.steps.proofs.show.show.Tie as tie
 
 returns : tie.Need-returns
 returns c =
-    let f = c .before in
+    let g = c .before in
+    let f = g .before in
     let a = f .before .before .before .args in
-    no-room (withBytes (a .value .now) (bare (a .e))) (a .out .now) _ (c .if1 .taken) refl (f .is-fail-safe .ensures)
+    no-room (withBytes (a .value .now) (bare (a .e))) (a .clock) (a .out .now) _ (c .if1 .taken) refl
+    (f .is-fail-safe .ensures) (g .shown-age .ensures)
 
 copy-out-requires : tie.Need-copy-out-requires
 copy-out-requires c κs =
     let n = c .before .before .before in
-    let a = n .before .before .before .before .before .before .args in
+    let a = n .before .before .before .before .before .before .before .args in
     let w = show-width-le (a .e .settings) in
     (omega (arith, n .show-width .ensures), omega (arith, n .show-width .ensures))
 
@@ -31,19 +33,21 @@ returns-2 c =
     let s = o .before .before .before in
     let n = s .before in
     let i = n .before .before in
-    let f = i .before in
+    let g = i .before in
+    let f = g .before in
     let a = f .before .before .before .args in
     let w = show-width-le (a .e .settings) in
     let safe : isFailSafe (bare (a .e)) ≡ true = sym (f .is-fail-safe .ensures) ∙ s .if2 .taken in
-    shown (withBytes (a .value .now) (bare (a .e))) (a .out .now) _ (replicate 100 0) (i .if1 .left)
-    (omega (arith, n .show-width .ensures)) (rw (n .show-width .ensures, safe)) (sym safe) (o .copy-out .ensures)
+    shown (withBytes (a .value .now) (bare (a .e))) (a .clock) (a .out .now) _ (replicate 100 0) (i .if1 .left)
+    (omega (arith, n .show-width .ensures)) (rw (n .show-width .ensures, safe)) (sym safe)
+    (g .shown-age .ensures) (o .copy-out .ensures)
 
 copy-out-requires-2 : tie.Need-copy-out-requires-2
 copy-out-requires-2 c κs =
     let k = c .before in
     let n = k .before .before in
     let i = n .before .before in
-    let a = i .before .before .before .before .args in
+    let a = i .before .before .before .before .before .args in
     let w = show-width-le (a .e .settings) in
     let l = most-le (a .value .now) (n .show-width .result) in
     let m = most-small (a .value .now) (n .show-width .result) in
@@ -56,19 +60,21 @@ returns-3 c =
     let s = k .before in
     let n = s .before in
     let i = n .before .before in
-    let f = i .before in
+    let g = i .before in
+    let f = g .before in
     let a = f .before .before .before .args in
     let v = a .value .now in
     let held : isFailSafe (bare (a .e)) ≡ false = sym (f .is-fail-safe .ensures) ∙ s .if2 .left in
-    shown (withBytes v (bare (a .e))) (a .out .now) _ v (i .if1 .left)
+    shown (withBytes v (bare (a .e))) (a .clock) (a .out .now) _ v (i .if1 .left)
     (rw (k .smaller .ensures) (most-le v (n .show-width .result)))
     (ap (λ (m : ℕ). take m v) (k .smaller .ensures) ∙ take-most v (n .show-width .result)
-    ∙ rw (n .show-width .ensures, held)) (sym held) (o .copy-out2 .ensures)
+    ∙ rw (n .show-width .ensures, held)) (sym held) (g .shown-age .ensures) (o .copy-out2 .ensures)
 
 pub show-spec : {M : Type 1} → statement M
 show-spec =
     tie.close
     (tie.spec
+    (λ c κs. search needs)
     (λ c κs. search needs)
     returns
     (λ c κs. search needs)

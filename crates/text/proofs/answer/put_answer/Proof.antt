@@ -16,7 +16,7 @@ returns-3 : tie.Need-returns-3
 returns-3 c =
     let l = c .before .before in
     let a = l .before .before .before .before .before .before .args in
-    let t = answerText (a .number) (a .entry) (a .count) (a .mark) (a .dirty) (a .written .now) in
+    let t = answerText (a .number) (a .entry) (a .count) (a .mark) (a .age) (a .dirty) (a .written .now) in
     written {text = t} _ (l .put-line .ensures .0) (omega arith) (l .put-line .ensures .1)
 
 pub put-answer-spec : {M : Type 1} → statement M

@@ -1,7 +1,8 @@
 -- `text::parse::name_of` meets its contract: the code's table is the definition's, computed here, once.
 use Rattle.bytes.specs.Bytes.{indexOf}
+use Rattle.text.specs.Printing.{bytesOf}
 use Rattle.text.specs.Reading.{wordIn}
-use Rattle.text.specs.Calls.{bytesOf, names, nameOf}
+use Rattle.text.specs.Calls.{names, nameOf}
 use borrow.Author.Needs.{needs}
 use Rattle.text.proofs.parse.name_of.Statement.{statement}
 use Rattle.text.proofs.parse.name_of.Tie as tie
