@@ -266,13 +266,13 @@ module _ (wm ws : List ℕ) (rm rs : List Record) (cid : ℕ) (hm : Holds wm rm 
     longs : length (x .log) ≡ length (l .log)
     longs = sym (toLog-length (x .log)) ∙ ap length (sym (S .log))
 
-    sends : (y : L.Show) (s : Settings) (r k : ℕ) → k < length (x .log) → F.ItsSend s r y (L.sentAt (x .log) k)
-        → ItsSend cid s r y (sentAt (l .log) k)
+    sends : (y : L.Show) (s : Settings) (k : ℕ) → k < length (x .log) → F.ItsSend s y (L.sentAt (x .log) k)
+        → ItsSend cid s y (sentAt (l .log) k)
     unfolding toSent
-    sends y s r k h w =
+    sends y s k h w =
         let g = good-at cid (S .good) k h in
         let e = L.sentAt (x .log) k in
-        subst (ItsSend cid s r y) (sym (ap (λ (z : List Sent). sentAt z k) (S .log) ∙ sent-at (x .log) k h)) (record {
+        subst (ItsSend cid s y) (sym (ap (λ (z : List Sent). sentAt z k) (S .log) ∙ sent-at (x .log) k h)) (record {
           other = w .other;
           refresh = refresh-of cid (e .fields) (e .body) (g .readable)
               ∙ both (eq-eqb (e .fields .connection) cid (g .has)) (w .refresh);
@@ -288,10 +288,10 @@ module _ (wm ws : List ℕ) (rm rs : List Record) (cid : ℕ) (hm : Holds wm rm 
           (λ h. let r = A .there i h in
           (r .0, r .1, subst (λ (n : ℕ). L.showAt (x .shows) i .written ≤ n) longs (r .2)));
       its-send = λ i k. subst (λ (z : List L.Show). i < length z → L.showAt z i .sent ≡ suc k
-          → ItsSend cid (cond (L.showAt z i .slave) ss sm) (sm .roundtrip) (L.showAt z i) (sentAt (l .log) k))
+          → ItsSend cid (cond (L.showAt z i .slave) ss sm) (L.showAt z i) (sentAt (l .log) k))
           (sym (S .shows))
           (λ h e. let r = A .there i h in let n : k < length (x .log) = let a = r .1 in let b = r .2 in omega arith in
-          sends (L.showAt (x .shows) i) _ _ k n (A .its-send i k h e));
+          sends (L.showAt (x .shows) i) _ k n (A .its-send i k h e));
       in-order = λ i j a. subst (λ (z : List L.Show). j < length z → L.showAt z i .slave ≡ L.showAt z j .slave
           → L.showAt z i .sent ≤ L.showAt z j .sent) (sym (S .shows)) (λ h e. A .in-order i j a h e);
     }

@@ -92,7 +92,8 @@ module _ (cid : ℕ) (slave : Bool) (m : ℕ) (d : Lent) (n t room : ℕ) (log :
   pub not-shown : (call : Call) (r : Result) → showsValue cid d call r ≡ false
       → shownBy cid slave d m took (length log) call r ≡ []
   not-shown call r h =
-      cond-false (showsValue cid d call r) (L.shown slave m (bytesOf (r .writes)) (ticksIn (r .age)) took (length log) ∷ []) [] h
+      cond-false (showsValue cid d call r)
+      (L.shown slave m (bytesOf (r .writes)) (ticksIn (r .age)) took (length log) ∷ []) [] h
 
   -- the endpoint took the clock step only, and nothing of the CID was written, shown or taken
   pub idle : (call : Call)

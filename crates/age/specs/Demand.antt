@@ -31,13 +31,13 @@ abbrev pub settingsIn : {list : List ℕ} {records : List Record} {cid : ℕ} {s
     → Holds list records cid slave → Settings
 settingsIn {list = list} {records = records} {cid = cid} h = settingsFor cid (loadedOf list records .lent)
 
--- the send of a show: by the other end, an S-Refresh of the CID, lent the value shown, and as old as Aged says; s are the
--- settings of the end that shows it, and R the master's
-pub record ItsSend (cid : ℕ) (s : Settings) (roundtrip : ℕ) (x : Show) (w : Sent) : Type 0 where
+-- the send of a show: by the other end, an S-Refresh of the CID, lent the value shown, and as old as Aged says; s are
+-- the settings of the end that shows it
+pub record ItsSend (cid : ℕ) (s : Settings) (x : Show) (w : Sent) : Type 0 where
   pub other : w .slave ≡ not (x .slave)
   pub refresh : isRefreshOf cid (w .bytes) ≡ true
   pub value : w .lent ≡ some (x .bytes)
-  pub aged : Aged s roundtrip x (w .moment)
+  pub aged : Aged s x (w .moment)
 
 -- the settings sm and ss are those of the two ends
 pub record Fresh (cid : ℕ) (sm ss : Settings) (l : Run) : Type 0 where
@@ -46,7 +46,7 @@ pub record Fresh (cid : ℕ) (sm ss : Settings) (l : Run) : Type 0 where
       → (1 ≤ showAt (l .shows) i .sent) × (showAt (l .shows) i .sent ≤ showAt (l .shows) i .written)
       × (showAt (l .shows) i .written ≤ length (l .log))
   pub its-send : (i k : ℕ) → i < length (l .shows) → showAt (l .shows) i .sent ≡ suc k
-      → ItsSend cid (cond (showAt (l .shows) i .slave) ss sm) (sm .roundtrip) (showAt (l .shows) i) (sentAt (l .log) k)
+      → ItsSend cid (cond (showAt (l .shows) i .slave) ss sm) (showAt (l .shows) i) (sentAt (l .log) k)
   -- a later show at the same end never has an earlier send
   pub in-order : (i j : ℕ) → i < j → j < length (l .shows) → showAt (l .shows) i .slave ≡ showAt (l .shows) j .slave
       → showAt (l .shows) i .sent ≤ showAt (l .shows) j .sent

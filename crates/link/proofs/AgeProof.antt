@@ -59,9 +59,10 @@ module _ (c : Clocks) (sm ss : Settings) (p : Paired sm ss) where
 
   -- a show at either end, whose value has its send
   shows-at : (slave : Bool) (log : List Sent) (e : Endpoint) (tm ts m t : ℕ) (shows : List Show)
-      → ((i : ℕ) → i < length log → Honest (sentAt log i))
+      → ((i : ℕ) → i < length log → Honest sm (sentAt log i))
       → (isExpired e t ≡ false → isFailSafe e ≡ false
-      → ShownAt (marks log) (cond slave 0 2) (cond slave ts tm) m (heldAge e t) (marginAt slave sm ss) (shownOf e))
+      → ShownAt (marks log) (cond slave 0 2) (cond slave ts tm) m (heldAge e t) (marginAt slave (cond slave ss sm))
+      (shownOf e))
       → ShowsInv sm ss log tm ts shows
       → ShowsInv sm ss log tm ts
       (shows ++ shownBy slave m t (cond slave ts tm) (length log) show (callOf e t show .endpoint))
@@ -76,9 +77,10 @@ module _ (c : Clocks) (sm ss : Settings) (p : Paired sm ss) where
 
   -- what a call adds to the shows, whatever the call; what it writes and takes comes after
   adds : (slave : Bool) (log : List Sent) (e : Endpoint) (tm ts m t : ℕ) (shows : List Show) (call : Call)
-      → ((i : ℕ) → i < length log → Honest (sentAt log i))
+      → ((i : ℕ) → i < length log → Honest sm (sentAt log i))
       → (isExpired e t ≡ false → isFailSafe e ≡ false
-      → ShownAt (marks log) (cond slave 0 2) (cond slave ts tm) m (heldAge e t) (marginAt slave sm ss) (shownOf e))
+      → ShownAt (marks log) (cond slave 0 2) (cond slave ts tm) m (heldAge e t) (marginAt slave (cond slave ss sm))
+      (shownOf e))
       → ShowsInv sm ss log tm ts shows
       → ShowsInv sm ss log tm ts
       (shows ++ shownBy slave m t (cond slave ts tm) (length log) call (callOf e t call .endpoint))
@@ -178,8 +180,8 @@ module _ (c : Clocks) (sm ss : Settings) (p : Paired sm ss) where
         nextIn = refl;
         held = refl;
         live = λ h. absurd (false≢true h);
-        ready = λ h.
-            absurd (false≢true h);
+        ready = λ h. absurd (false≢true h);
+        agreed = λ h. absurd (false≢true h);
       };
       honest = λ i h. absurd (not-suc-le-zero h);
       inv = nothing-yet;
@@ -201,7 +203,7 @@ module _ (c : Clocks) (sm ss : Settings) (p : Paired sm ss) where
         let s = r .shown .its i h in
         let a = s .sent in
         let q : s .place ≡ k = omega arith in
-        subst (λ (n : ℕ). ItsSend (cond (showAt (l .shows) i .slave) ss sm) (sm .roundtrip) (showAt (l .shows) i)
+        subst (λ (n : ℕ). ItsSend (cond (showAt (l .shows) i .slave) ss sm) (showAt (l .shows) i)
         (sentAt (l .log) n)) q (s .fits);
     in-order = r .shown .order;
   }
@@ -212,13 +214,11 @@ age-theorem sm ss c vs p h = fresh-of c sm ss p (afterAll c (begun sm ss) vs)
 
 pub silence : Silence
 silence sm ss c vs slave last p h before i k e =
-    let l = afterAll c (begun sm ss) vs in
     let r = along c sm ss p (begun sm ss) vs h (at-first c sm ss p) in
     let s = r .shown .its i k in
     let f = s .fits in
     let m = before (s .place) (let a = s .early in let b = s .known in omega arith) (f .other ∙ ap not e)
     (f .refresh) in
-    let y : showAt (l .shows) i .moment ≤ sentAt (l .log) (s .place) .moment + boundOf (cond slave ss sm) =
-    subst (λ (b : Bool). showAt (l .shows) i .moment ≤ sentAt (l .log) (s .place) .moment + boundOf (cond b ss sm)) e
-    (f .aged .young) in
+    let b = ap (λ (b : Bool). boundOf (cond b ss sm)) e in
+    let y = f .aged .young in
     omega arith

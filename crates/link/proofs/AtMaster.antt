@@ -25,7 +25,7 @@ use Rattle.endpoint.specs.Due.{isWaiting, queuedIn, isCommandDue, requestDue}
 use Rattle.endpoint.specs.Time.{span, minus, isExpired, endedOf, allowanceOf, countedAge, heldAge, timeOf, ageOf}
 use Rattle.transitions.specs.ByCall.{startedOf, restartedOf, requestedOf, refreshSentOf, stoppedOf}
 use Rattle.transitions.specs.ByFrame.{refreshedOf, measuredBy, confirmedOf, dueAgainOf, performedOf}
-use Rattle.steps.specs.Frames.{setupData, dueData, baselineOf, requestFields, refreshFields, disconnectFields}
+use Rattle.steps.specs.Frames.{setupData, dataOf, dueData, baselineOf, requestFields, refreshFields, disconnectFields}
 use Rattle.steps.specs.Calls.{isFailSafe, shownOf}
 use Rattle.steps.specs.Frames.{paddedOf}
 use Rattle.steps.specs.Laws.{RequestSent, RefreshSent, StopDone, ReplyTaken, RefreshTaken}
@@ -124,7 +124,7 @@ module _ (c : Clocks) (sm ss : Settings) (p : Paired sm ss) {l : List Sent} {em 
 
   -- a frame is written; the endpoint is then another
   wrote : (e : Endpoint) (w : Sent) (code baseline : ℕ) (body : List ℕ) (phase : MPhase) → e .settings ≡ sm
-      → markOf w ≡ mark 0 code t baseline (t + c .master) body → Honest w → topOf (em .timestamps .sent) ≤ t
+      → markOf w ≡ mark 0 code t baseline (t + c .master) body → Honest sm w → topOf (em .timestamps .sent) ≤ t
       → (code ≡ 254 → Has (GoOf (termsOf c sm ss) (marks l) (mark 0 code t baseline (t + c .master) body)) (marks l))
       → MPh (termsOf c sm ss) (t + c .master) (marks l) (suc t) (L .master .held) phase
       → RelM e tm (record { nextOut = suc t; nextIn = L .master .nextIn; held = L .master .held; phase = phase })
@@ -138,7 +138,7 @@ module _ (c : Clocks) (sm ss : Settings) (p : Paired sm ss) {l : List Sent} {em 
         setS = L .setS;
         relM = r;
         relS = L .relS;
-        honest = honest-snoc l w (L .honest) h;
+        honest = honest-snoc sm l w (L .honest) h;
         inv = subst (λ (x : List Mark). Inv (termsOf c sm ss) (t + c .master) x M (L .slave))
             (sym (marks-snoc l w ∙ ap (snoc (marks l)) m))
             (m-writes (termsOf c sm ss) (small-of c sm ss p) t code baseline body phase refl (omega arith)
@@ -166,11 +166,13 @@ module _ (c : Clocks) (sm ss : Settings) (p : Paired sm ss) {l : List Sent} {em 
         (baselineOf (requestDue em) t (em .setup .measured)) (t + c .master)
         (dueData em)
 
-    asked-honest : Honest asking
+    asked-honest : Honest sm asking
     asked-honest = record {
       writer = refl;
       value = λ h. absurd (true≢false (sym h ∙ due-not-refresh (em .setup .queue) (em .state)));
       busy = λ h. absurd (false≢true h);
+      confirms = λ a h. ap (dataOf em) (is-eq (requestDue em) K.ConfirmNetwork h)
+          ∙ ap (λ (s : Settings). setupData s K.ConfirmNetwork) (L .setM);
     }
 
     go-asked : codeOf (requestDue em) ≡ 254
@@ -240,7 +242,13 @@ module _ (c : Clocks) (sm ss : Settings) (p : Paired sm ss) {l : List Sent} {em 
         let v = q .live (d .refresh) in
         let n = refresh-not-setup (em .state) (d .refresh) in
         wrote (refreshSentOf em t) refreshing 255 0 value (L .master .phase) (L .setM) refresh-mark
-        (record { writer = role; value = λ h. refl; busy = λ h. absurd (false≢true h) }) refresh-above
+        (record {
+          writer = role;
+          value = λ h. refl;
+          busy = λ h. absurd (false≢true h);
+          confirms = λ a h. absurd (false≢true h);
+        })
+        refresh-above
         (λ h. absurd (omega arith))
         (live-again (L .master .phase) (v .value) (v .phase) (L .inv .master .phase))
         (record {
@@ -278,7 +286,13 @@ module _ (c : Clocks) (sm ss : Settings) (p : Paired sm ss) {l : List Sent} {em 
         let z = above-top (em .timestamps .sent) (timeOf em t) (d .above role) in
         let y = time in
         wrote (stoppedOf em t) leaving 249 0 (setupData (em .settings) K.Disconnect) restM (L .setM) leaving-mark
-        (record { writer = refl; value = λ h. absurd (false≢true h); busy = λ h. absurd (false≢true h) }) (omega arith)
+        (record {
+          writer = refl;
+          value = λ h. absurd (false≢true h);
+          busy = λ h. absurd (false≢true h);
+          confirms = λ a h. absurd (false≢true h);
+        })
+        (omega arith)
         (λ h. absurd (omega arith)) tt
         (record {
           nextOut = stop-stamp;
@@ -510,7 +524,7 @@ module _ (c : Clocks) (sm ss : Settings) (p : Paired sm ss) {l : List Sent} {em 
 
   -- ---- a show that is not fail-safe
   module _ (x : isExpired em t ≡ false) (n : isFailSafe em ≡ false) where
-    pub shown-m : ShownAt (marks l) 2 tm (t + c .master) (heldAge em t) (marginAt false sm ss) (shownOf em)
+    pub shown-m : ShownAt (marks l) 2 tm (t + c .master) (heldAge em t) (marginAt false sm) (shownOf em)
     shown-m =
         let v = L .relM .live (in-refresh em n) in
         let w : MPh (termsOf c sm ss) (t + c .master) (marks l) (L .master .nextOut) (L .master .held)
@@ -523,7 +537,7 @@ module _ (c : Clocks) (sm ss : Settings) (p : Paired sm ss) {l : List Sent} {em 
         let s = p .ticksM .age in
         let s′ = p .ticksM .interval in
         held-shown em (marks l) 2 (L .master .nextIn) tm (em .since + c .master) t (t + c .master) (sm .interval)
-        (marginM (termsOf c sm ss)) (marginAt false sm ss) (v .value) (L .master .held) n (v .holds) (L .relM .held)
+        (marginM (termsOf c sm ss)) (marginAt false sm) (v .value) (L .master .held) n (v .holds) (L .relM .held)
         (L .inv .master .held) (w .1) (λ k z. L .inv .log .stamped k z .past)
         (record { up = omega arith; down = omega arith }) (omega arith) (omega arith)
         (record { most = omega arith; low = omega arith; high = omega arith; small = omega arith })

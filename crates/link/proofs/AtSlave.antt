@@ -8,6 +8,7 @@ use native.Mathlib.Nat.{mod-eq-of-lt}
 use native.Mathlib.Omega.{arith}
 use lib.ListN.{length}
 use borrow.Author.Tests.{eqb-true}
+use Rattle.words.specs.Words.{wordAt}
 use Rattle.frame.specs.declared.Command.{Command}
 use Rattle.frame.specs.declared.Command.the-variants as K
 use Rattle.frame.specs.declared.Fields.{Fields}
@@ -28,7 +29,7 @@ use Rattle.endpoint.specs.Time.{ageOf}
 use Rattle.endpoint.specs.Updates.{inState}
 use Rattle.transitions.specs.ByCall.{restartedOf, refreshSentOf, stoppedOf}
 use Rattle.transitions.specs.ByFrame.{refreshedOf, measuredBy, advancedOf, endedBy, deferredOf}
-use Rattle.steps.specs.Frames.{refreshFields, replyFields, hasResult, isBusy, replyData}
+use Rattle.steps.specs.Frames.{setupData, refreshFields, replyFields, hasResult, isBusy, replyData}
 use Rattle.steps.specs.Calls.{isFailSafe, shownOf}
 use Rattle.steps.specs.Frames.{paddedOf}
 use Rattle.steps.specs.Laws.{RefreshSent, RequestTaken, RefreshTaken}
@@ -41,12 +42,13 @@ use Rattle.link.proofs.Invariant.{limit, SPhase, restS, armed, liveS, S
 use Rattle.link.proofs.Invariant.{pace-hold, elder}
 use Rattle.link.proofs.Kept.{s-phase, s-hears, s-replies, s-arms, s-goes, s-sends, s-takes, held-rises}
 use Rattle.link.proofs.Relation.{termsOf, small-of, markOf, marks, topOf, above-top, RelS, Honest, Linked}
-use Rattle.link.proofs.Relation.{setup-timer, refresh-timer, slave-time, not-late, toldOf}
-use Rattle.link.proofs.Entries.{marks-snoc, honest-snoc, FoundAt, in-log, the-mark, marked-code, marked-stamp}
-use Rattle.link.proofs.Entries.{marked-body}
+use Rattle.link.proofs.Relation.{roundtrip-in, setup-timer, refresh-timer, slave-time, not-late, toldOf}
+use Rattle.link.proofs.Entries.{marks-snoc, honest-snoc, is-eq, FoundAt, in-log, the-mark, marked-code}
+use Rattle.link.proofs.Entries.{marked-stamp, marked-body}
 use Rattle.link.proofs.Shown.{ShownAt, marginAt, in-refresh, held-shown}
 use Rattle.link.proofs.Codes.{refresh-not-setup, pending-setup, targetOf, leads, go-from, held-from}
-use Rattle.link.proofs.Codes.{busy-may}
+use Rattle.link.proofs.Codes.{Unfixed, isEstablished, refresh-established, not-established}
+use Rattle.link.proofs.Codes.{stays-established, busy-may}
 
 module _ (c : Clocks) (sm ss : Settings) (p : Paired sm ss) {l : List Sent} {em es : Endpoint} {tm ts : ℕ} (t : ℕ)
     (lim : t ≤ limit)
@@ -59,10 +61,11 @@ module _ (c : Clocks) (sm ss : Settings) (p : Paired sm ss) {l : List Sent} {em 
 
   -- an endpoint that waits for nothing
   rest : (e : Endpoint) → e .settings ≡ ss → topOf (e .timestamps .sent) ≡ topOf (es .timestamps .sent)
-      → topOf (e .timestamps .accepted) ≡ topOf (es .timestamps .accepted) → isState (e .state) Refresh ≡ false
-      → isState (e .state) RefreshPending ≡ false → Linked c sm ss (t + c .slave) l em e tm ts
-  rest e s o i r k =
+      → topOf (e .timestamps .accepted) ≡ topOf (es .timestamps .accepted) → isEstablished (e .state) ≡ false
+      → Linked c sm ss (t + c .slave) l em e tm ts
+  rest e s o i n =
       let q = L .relS in
+      let u = not-established (e .state) n in
       record {
         master = L .master;
         slave = record { nextOut = L .slave .nextOut; nextIn = L .slave .nextIn; held = L .slave .held; phase = restS };
@@ -73,24 +76,25 @@ module _ (c : Clocks) (sm ss : Settings) (p : Paired sm ss) {l : List Sent} {em 
           nextOut = o ∙ q .nextOut;
           nextIn = i ∙ q .nextIn;
           held = q .held;
-          live = λ h. absurd (true≢false (sym h ∙ r));
-          ready = λ h. absurd (true≢false (sym h ∙ k));
+          live = λ h. absurd (true≢false (sym h ∙ u .0));
+          ready = λ h. absurd (true≢false (sym h ∙ u .1));
+          agreed = λ h. absurd (true≢false (sym h ∙ n));
         };
         honest = L .honest;
         inv = s-phase (termsOf c sm ss) (small-of c sm ss p) restS tt (L .inv);
       }
 
   pub ended-s : Linked c sm ss (t + c .slave) l em (endedOf es) tm ts
-  ended-s = rest (endedOf es) (L .setS) refl refl refl refl
+  ended-s = rest (endedOf es) (L .setS) refl refl refl
 
   pub restarted-s : Linked c sm ss (t + c .slave) l em (restartedOf es) tm ts
-  restarted-s = rest (restartedOf es) (L .setS) refl refl refl refl
+  restarted-s = rest (restartedOf es) (L .setS) refl refl refl
 
   pub stopped-s : Linked c sm ss (t + c .slave) l em (stoppedOf es t) tm ts
   stopped-s =
       let q = cond-true (es .settings .slave) (es .timestamps) _ role in
       rest (stoppedOf es t) (L .setS) (ap (λ (b : Timestamps). topOf (b .sent)) q)
-      (ap (λ (b : Timestamps). topOf (b .accepted)) q) refl refl
+      (ap (λ (b : Timestamps). topOf (b .accepted)) q) refl
 
   pub told-s : (s : Station) (q : Queue) (w x : Words) → Linked c sm ss (t + c .slave) l em (toldOf es s q w x) tm ts
   told-s s k w x =
@@ -107,6 +111,7 @@ module _ (c : Clocks) (sm ss : Settings) (p : Paired sm ss) {l : List Sent} {em 
           held = q .held;
           live = λ h. let v = q .live h in record { value = v .value; phase = v .phase; holds = v .holds };
           ready = λ h. let r = q .ready h in record { phase = r .phase; since = r .since };
+          agreed = q .agreed;
         };
         honest = L .honest;
         inv = L .inv;
@@ -147,11 +152,13 @@ module _ (c : Clocks) (sm ss : Settings) (p : Paired sm ss) {l : List Sent} {em 
             held = q .held;
             live = λ h. record { value = v .value; phase = v .phase; holds = v .holds };
             ready = λ h. absurd (true≢false (sym (pending-setup (es .state) h) ∙ n));
+            agreed = q .agreed;
           };
-          honest = honest-snoc l refreshing (L .honest) (record {
+          honest = honest-snoc sm l refreshing (L .honest) (record {
             writer = role;
             value = λ h. refl;
             busy = λ h. absurd (false≢true h);
+            confirms = λ a h. absurd (false≢true h);
           });
           inv = subst (λ (x : List Mark). Inv (termsOf c sm ss) (t + c .slave) x (L .master) S)
               (sym (marks-snoc l refreshing ∙ ap (snoc (marks l)) refresh-mark))
@@ -199,6 +206,7 @@ module _ (c : Clocks) (sm ss : Settings) (p : Paired sm ss) {l : List Sent} {em 
               held = q .held;
               live = λ h. absurd (false≢true h);
               ready = λ h. absurd (false≢true h);
+              agreed = λ h. absurd (false≢true h);
             };
             honest = L .honest;
             inv = s-hears (termsOf c sm ss) (small-of c sm ss p) k (in-log f body l k g) marked-who next-below (L .inv);
@@ -223,8 +231,13 @@ module _ (c : Clocks) (sm ss : Settings) (p : Paired sm ss) {l : List Sent} {em 
             ∙ sym (marked-stamp f body l k g) in
             λ i. mark (cond (n i) 2 1) (codeOf (f .command)) (s i) 0 (t + c .slave) said
 
-        reply-honest : Honest (replying busy error said)
-        reply-honest = record { writer = refl; value = λ h. absurd (true≢false (sym h ∙ n)); busy = may }
+        reply-honest : Honest sm (replying busy error said)
+        reply-honest = record {
+          writer = refl;
+          value = λ h. absurd (true≢false (sym h ∙ n));
+          busy = may;
+          confirms = λ a h. absurd (true≢false a);
+        }
 
         replied : (e : Endpoint) (phase : SPhase) → e .settings ≡ ss
             → let S : Slave = record {
@@ -234,7 +247,7 @@ module _ (c : Clocks) (sm ss : Settings) (p : Paired sm ss) {l : List Sent} {em 
               phase =
                   phase;
             } in
-            RelS e ts S
+            RelS sm e ts S
             → Inv (termsOf c sm ss) (t + c .slave)
             (snoc (marks l) (mark 1 (codeOf (f .command)) (at (marks l) k .stamp) 0 (t + c .slave) said))
             (L .master) S
@@ -254,25 +267,26 @@ module _ (c : Clocks) (sm ss : Settings) (p : Paired sm ss) {l : List Sent} {em 
               setS = s;
               relM = L .relM;
               relS = r;
-              honest = honest-snoc l (replying busy error said) (L .honest) reply-honest;
+              honest = honest-snoc sm l (replying busy error said) (L .honest) reply-honest;
               inv = subst (λ (x : List Mark). Inv (termsOf c sm ss) (t + c .slave) x (L .master) S)
                   (sym (marks-snoc l (replying busy error said) ∙ ap (snoc (marks l)) reply-mark)) v;
             }
 
         -- the slave rests after its reply
         replied-rest : (e : Endpoint) → e .settings ≡ ss → topOf (e .timestamps .sent) ≡ topOf (es .timestamps .sent)
-            → topOf (e .timestamps .accepted) ≡ suc (f .timestamp) → isState (e .state) Refresh ≡ false
-            → isState (e .state) RefreshPending ≡ false
+            → topOf (e .timestamps .accepted) ≡ suc (f .timestamp) → Unfixed (e .state)
+            → (isEstablished (e .state) ≡ true → e .settings .roundtrip ≡ sm .roundtrip)
             → Linked c sm ss (t + c .slave) (l ++ (replying busy error said ∷ [])) em e tm ts
-        replied-rest e s o i r h =
+        replied-rest e s o i u a =
             let q = L .relS in
             replied e restS s
             (record {
               nextOut = o ∙ q .nextOut;
               nextIn = i ∙ ap suc (sym (marked-stamp f body l k g));
               held = q .held;
-              live = λ z. absurd (true≢false (sym z ∙ r));
-              ready = λ z. absurd (true≢false (sym z ∙ h));
+              live = λ z. absurd (true≢false (sym z ∙ u .0));
+              ready = λ z. absurd (true≢false (sym z ∙ u .1));
+              agreed = a;
             })
             (s-replies (termsOf c sm ss) (small-of c sm ss p) (t + c .slave) k (codeOf (f .command)) said restS refl
             (in-log f body l k g) marked-who next-below tt (L .inv))
@@ -285,14 +299,14 @@ module _ (c : Clocks) (sm ss : Settings) (p : Paired sm ss) {l : List Sent} {em 
           → Linked c sm ss (t + c .slave) (l ++ (replying false true (replyData es (f .command) false body) ∷ [])) em
           (endedBy es (f .timestamp)) tm ts
       unequal-s n = replied-rest false true (replyData es (f .command) false body) plain n (endedBy es (f .timestamp))
-          (L .setS) refl refl refl refl
+          (L .setS) refl refl (refl, refl) (λ h. absurd (false≢true h))
 
       -- S-WriteErrorInfo: its reply repeats its error record
-      pub reported-s : is (f .command) K.Refresh ≡ false → (s : State) → isState s Refresh ≡ false
-          → isState s RefreshPending ≡ false
+      pub reported-s : is (f .command) K.Refresh ≡ false → (s : State) → isEstablished s ≡ false
           → Linked c sm ss (t + c .slave) (l ++ (replying false false body ∷ [])) em
           (inState s (endedBy es (f .timestamp))) tm ts
-      reported-s n s = replied-rest false false body plain n (inState s (endedBy es (f .timestamp))) (L .setS) refl refl
+      reported-s n s u = replied-rest false false body plain n (inState s (endedBy es (f .timestamp))) (L .setS) refl
+          refl (not-established s u) (λ h. absurd (true≢false (sym h ∙ u)))
 
       -- a request that is done
       module _ (d : RequestTaken es t f body) (x : isExpired es t ≡ false) (n : is (f .command) K.Refresh ≡ false) where
@@ -312,6 +326,20 @@ module _ (c : Clocks) (sm ss : Settings) (p : Paired sm ss) {l : List Sent} {em 
             ap (λ (y : Next). stateTo y (es .state)) (leads (f .command) (es .state) (d .turn))
             ∙ ap targetOf e
 
+        -- S-InitConfirmNetPrm has this end's own settings, and the master's
+        agrees : isEstablished (advancedOf es t f .state) ≡ true → es .settings .roundtrip ≡ sm .roundtrip
+        agrees h =
+            bcase (is (f .command) K.ConfirmNetwork)
+            (λ q.
+            let e = is-eq (f .command) K.ConfirmNetwork q in
+            let own = d .contents (ap (λ (y : Command). is y K.InvokeFunc) e) ∙ ap (setupData (es .settings)) e in
+            let theirs = L .honest k (g .there) .confirms (ap (λ (y : Fields). y .application) (g .fields) ∙ masters)
+            (ap (λ (y : Fields). is (y .command) K.ConfirmNetwork) (g .fields) ∙ q) in
+            sym (roundtrip-in (es .settings)) ∙ ap (λ (b : List ℕ). wordAt b 4) (sym own ∙ sym (g .bodies) ∙ theirs)
+            ∙ roundtrip-in sm)
+            (λ n. L .relS .agreed (stays-established (f .command) n
+            (sym (ap isEstablished (to (f .command) refl)) ∙ h) (es .state) (d .turn)))
+
         -- S-RefreshReady: s2
         ready-s : f .command ≡ K.RefreshReady
             → Linked c sm ss (t + c .slave) (l ++ (replying busy false said ∷ [])) em (advancedOf es t f) tm ts
@@ -327,6 +355,7 @@ module _ (c : Clocks) (sm ss : Settings) (p : Paired sm ss) {l : List Sent} {em 
               held = q .held;
               live = λ z. absurd (false≢true (sym (ap (λ (y : State). isState y Refresh) s2) ∙ z));
               ready = λ z. record { phase = ap armed (sym m2); since = sym m2 };
+              agreed = agrees;
             })
             (s-arms (termsOf c sm ss) (small-of c sm ss p) t (t + c .slave) k (codeOf (f .command)) said
             refl refl (omega arith) (in-log f body l k g) marked-who
@@ -359,31 +388,30 @@ module _ (c : Clocks) (sm ss : Settings) (p : Paired sm ss) {l : List Sent} {em 
               held = q .held;
               live = λ z. record { value = none; phase = ap (λ (y : ℕ). liveS y t 0 none) off; holds = refl };
               ready = λ z. absurd (false≢true (sym (ap (λ (y : State). isState y RefreshPending) s2) ∙ z));
+              agreed = agrees;
             })
             (s-goes (termsOf c sm ss) (small-of c sm ss p) t (t + c .slave) k (codeOf (f .command))
             (es .setup .measured) said (r .phase) refl refl (omega arith)
             (in-log f body l k g) marked-who ((marked-code f body l k g) ∙ ap codeOf e) next-below (L .inv))
 
-        plain-s : (q : Command) → f .command ≡ q → isState (targetOf q) Refresh ≡ false
-            → isState (targetOf q) RefreshPending ≡ false
+        plain-s : (q : Command) → f .command ≡ q → Unfixed (targetOf q)
             → Linked c sm ss (t + c .slave) (l ++ (replying busy false said ∷ [])) em (advancedOf es t f) tm ts
-        plain-s q e h i =
+        plain-s q e u =
             replied-rest busy false said may n (advancedOf es t f) (L .setS) refl refl
-            (ap (λ (y : State). isState y Refresh) (to q e) ∙ h)
-            (ap (λ (y : State). isState y RefreshPending) (to q e) ∙ i)
+            (subst Unfixed (sym (to q e)) u) agrees
 
         by-command : (q : Command) → f .command ≡ q
             → Linked c sm ss (t + c .slave) (l ++ (replying busy false said ∷ [])) em (advancedOf es t f) tm ts
-        by-command K.Connect e = plain-s K.Connect e refl refl
-        by-command K.ConfirmNetwork e = plain-s K.ConfirmNetwork e refl refl
-        by-command K.VerifyStation e = plain-s K.VerifyStation e refl refl
-        by-command K.InvokeFunc e = plain-s K.InvokeFunc e refl refl
-        by-command K.ReadErrorInfo e = plain-s K.ReadErrorInfo e refl refl
-        by-command K.WriteErrorInfo e = plain-s K.WriteErrorInfo e refl refl
+        by-command K.Connect e = plain-s K.Connect e (refl, refl)
+        by-command K.ConfirmNetwork e = plain-s K.ConfirmNetwork e (refl, refl)
+        by-command K.VerifyStation e = plain-s K.VerifyStation e (refl, refl)
+        by-command K.InvokeFunc e = plain-s K.InvokeFunc e (refl, refl)
+        by-command K.ReadErrorInfo e = plain-s K.ReadErrorInfo e (refl, refl)
+        by-command K.WriteErrorInfo e = plain-s K.WriteErrorInfo e (refl, refl)
         by-command K.RefreshReady e = ready-s e
         by-command K.RefreshGo e = go-s e
         by-command K.Refresh e = absurd (true≢false (sym (ap (λ (y : Command). is y K.Refresh) e) ∙ n))
-        by-command K.Disconnect e = plain-s K.Disconnect e refl refl
+        by-command K.Disconnect e = plain-s K.Disconnect e (refl, refl)
 
         advanced-s : Linked c sm ss (t + c .slave) (l ++ (replying busy false said ∷ [])) em (advancedOf es t f) tm ts
         advanced-s = by-command (f .command) refl
@@ -393,8 +421,8 @@ module _ (c : Clocks) (sm ss : Settings) (p : Paired sm ss) {l : List Sent} {em 
             → Linked c sm ss (t + c .slave) (l ++ (replying busy false said ∷ [])) em (deferredOf es t f) tm ts
         deferred-s b =
             let w = and-right (es .station .notready) (waitsForStation (f .command)) b in
-            let u = held-from (f .command) w (es .state) (d .turn) in
-            replied-rest busy false said may n (deferredOf es t f) (L .setS) refl refl (u .0) (u .1)
+            replied-rest busy false said may n (deferredOf es t f) (L .setS) refl refl
+            (held-from (f .command) w (es .state) (d .turn)) (L .relS .agreed)
 
         abbrev Answered : Bool → Type 0
         Answered held =
@@ -461,6 +489,7 @@ module _ (c : Clocks) (sm ss : Settings) (p : Paired sm ss) {l : List Sent} {em 
                 holds = (refl, refl, d .width);
               };
               ready = λ z. absurd (true≢false (sym (pending-setup (es .state) z) ∙ n));
+              agreed = q .agreed;
             };
             honest = L .honest;
             inv = s-takes (termsOf c sm ss) (small-of c sm ss p) t (t + c .slave) (es .setup .offset) (es .since)
@@ -471,7 +500,7 @@ module _ (c : Clocks) (sm ss : Settings) (p : Paired sm ss) {l : List Sent} {em 
 
   -- ---- a show that is not fail-safe
   module _ (x : isExpired es t ≡ false) (n : isFailSafe es ≡ false) where
-    pub shown-s : ShownAt (marks l) 0 ts (t + c .slave) (heldAge es t) (marginAt true sm ss) (shownOf es)
+    pub shown-s : ShownAt (marks l) 0 ts (t + c .slave) (heldAge es t) (marginAt true ss) (shownOf es)
     shown-s =
         let T = termsOf c sm ss in
         let v = L .relS .live (in-refresh es n) in
@@ -480,10 +509,12 @@ module _ (c : Clocks) (sm ss : Settings) (p : Paired sm ss) {l : List Sent} {em 
         subst (SPh T (t + c .slave) (marks l) (L .slave .nextIn) (L .slave .held)) (v .phase) (L .inv .slave .phase) in
         let u = refresh-timer es t x (in-refresh es n) in
         let i : es .settings .interval ≡ ss .interval = ap (λ (y : Settings). y .interval) (L .setS) in
+        let r : es .settings .roundtrip ≡ ss .roundtrip = ap (λ (y : Settings). y .roundtrip) (L .setS) in
+        let a = L .relS .agreed (refresh-established (es .state) (in-refresh es n)) in
         let s = p .ticksS .age in
         let s′ = p .ticksS .interval in
         held-shown es (marks l) 0 (L .slave .nextIn) ts (w .m) t (t + c .slave) (ss .interval) (marginS T)
-        (marginAt true sm ss) (v .value) (L .slave .held) n (v .holds) (L .relS .held) (L .inv .slave .held) (w .value)
+        (marginAt true ss) (v .value) (L .slave .held) n (v .holds) (L .relS .held) (L .inv .slave .held) (w .value)
         (λ k z. L .inv .log .stamped k z .past) (pace-hold T (es .since) (w .m) t (t + c .slave) (w .at′) refl)
         (elder T (es .since) (w .m) t (t + c .slave) (w .at′) refl (w .by-now)) (omega arith)
         (record { most = omega arith; low = omega arith; high = omega arith; small = omega arith })

@@ -15,7 +15,7 @@ use Rattle.endpoint.specs.declared.State.the-variants.{TerminateMore}
 use Rattle.endpoint.specs.declared.Next.the-variants.{To}
 use Rattle.endpoint.specs.declared.Queue.{Queue}
 use Rattle.endpoint.specs.declared.Queue.the-variants as Q
-use Rattle.endpoint.specs.Table.{isState, isSetup, isNo, nextOf, requestOf}
+use Rattle.endpoint.specs.Table.{byState, isState, isSetup, isNo, nextOf, requestOf}
 use Rattle.endpoint.specs.Due.{isWaiting, queuedIn}
 use Rattle.steps.specs.Frames.{baselineOf}
 
@@ -176,14 +176,39 @@ command-due true s h = ready-due s h
     ready-due = each (λ s. is (requestOf s) K.RefreshReady ≡ true → Unfixed s) off off off off (λ h. (refl, refl))
         (λ h. (refl, refl)) off off off off
 
--- S-WriteErrorInfo leads to neither, whether or not more follow
-pub ended-refresh : (more : Bool) → isState (cond more TerminateMore Terminate) Refresh ≡ false
-ended-refresh true = refl
-ended-refresh false = refl
+-- from Establish to Refresh: S-InitConfirmNetPrm was taken, and the connection has not ended
+abbrev pub isEstablished : State → Bool
+isEstablished s = byState s false false false true true true true true false false
 
-pub ended-pending : (more : Bool) → isState (cond more TerminateMore Terminate) RefreshPending ≡ false
-ended-pending true = refl
-ended-pending false = refl
+pub refresh-established : (s : State) → isState s Refresh ≡ true → isEstablished s ≡ true
+refresh-established = each (λ s. isState s Refresh ≡ true → isEstablished s ≡ true) off off off off off off off
+    (λ h. refl) off off
+
+pub not-established : (s : State) → isEstablished s ≡ false → Unfixed s
+not-established = each (λ s. isEstablished s ≡ false → Unfixed s) (λ h. (refl, refl)) (λ h. (refl, refl))
+    (λ h. (refl, refl)) no no no no no (λ h. (refl, refl)) (λ h. (refl, refl))
+
+abbrev Stays : Command → State → Type 0
+Stays k s = isNo (nextOf k s) ≡ false → isEstablished s ≡ true
+
+-- no other command leads there from elsewhere
+pub stays-established : (k : Command) → is k K.ConfirmNetwork ≡ false → isEstablished (targetOf k) ≡ true → (s : State)
+    → isNo (nextOf k s) ≡ false → isEstablished s ≡ true
+stays-established K.Connect n e = off e
+stays-established K.ConfirmNetwork n e = no n
+stays-established K.VerifyStation n e = each (Stays K.VerifyStation) no no no (λ h. refl) no no no no no no
+stays-established K.InvokeFunc n e = each (Stays K.InvokeFunc) no no no no (λ h. refl) (λ h. refl) no no no no
+stays-established K.ReadErrorInfo n e = each (Stays K.ReadErrorInfo) no no no no (λ h. refl) no no no no no
+stays-established K.WriteErrorInfo n e = off e
+stays-established K.RefreshReady n e = each (Stays K.RefreshReady) no no no no (λ h. refl) (λ h. refl) no no no no
+stays-established K.RefreshGo n e = each (Stays K.RefreshGo) no no no no no no (λ h. refl) no no no
+stays-established K.Refresh n e = each (Stays K.Refresh) no no no no no no no (λ h. refl) no no
+stays-established K.Disconnect n e = off e
+
+-- S-WriteErrorInfo leads elsewhere, whether or not more follow
+pub report-ends : (more : Bool) → isEstablished (cond more TerminateMore Terminate) ≡ false
+report-ends true = refl
+report-ends false = refl
 
 -- a reply that has Busy may have it: the station held it back, or work is in progress
 pub busy-may : (held waits invoke works : Bool) → ((held && waits) || (invoke && works)) ≡ true

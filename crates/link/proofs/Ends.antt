@@ -31,7 +31,7 @@ use Rattle.link.specs.Fresh.{Paired}
 use Rattle.link.proofs.Relation.{Linked}
 use Rattle.link.proofs.Entries.{FoundAt}
 use Rattle.errors.specs.Reading.{moreFollows}
-use Rattle.link.proofs.Codes.{ended-refresh, ended-pending}
+use Rattle.link.proofs.Codes.{report-ends}
 use Rattle.link.proofs.Events.{Keeps, Kept, expired, acted}
 use Rattle.link.proofs.AtMaster as M
 use Rattle.link.proofs.Invariant.{limit}
@@ -186,8 +186,7 @@ module _ (c : Clocks) (sm ss : Settings) (p : Paired sm ss) {l : List Sent} {em 
             (λ w.
             let d = report-done es t f body w e in
             subst (KeepsS (deliver f body)) (sym (d .comes))
-            (S.reported-s c sm ss p t lim L f body k g masters (d .above) n _ (ended-refresh (moreFollows body))
-            (ended-pending (moreFollows body))))
+            (S.reported-s c sm ss p t lim L f body k g masters (d .above) n _ (report-ends (moreFollows body))))
             (λ w.
             let d = request-done es t f body q w e in
             subst (KeepsS (deliver f body)) (sym (d .comes))

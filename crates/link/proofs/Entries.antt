@@ -20,6 +20,7 @@ use Rattle.words.specs.Bytes.{same}
 use mathlib.Mathlib.Data.Bool.Basic.{and-elim-left as and-left, and-elim-right as and-right}
 use Rattle.words.proofs.Alike.{same-eq}
 use Rattle.frame.proofs.Digits.{command-of-code}
+use Rattle.endpoint.specs.declared.Settings.{Settings}
 use Rattle.link.specs.Runs.{Sent, noSent, sentAt, sameFields, lastFrom, lastOf}
 use Rattle.link.proofs.Marks.{Mark, mark, size, at, snoc}
 use Rattle.link.proofs.Relation.{whoOf, markOf, marks, Honest}
@@ -53,12 +54,12 @@ pub entry-new : (l : List Sent) (w : Sent) → sentAt (l ++ (w ∷ [])) (length 
 unfolding sentAt
 entry-new l w = getD-append-seam l w [] noSent
 
-pub honest-snoc : (l : List Sent) (w : Sent) → ((i : ℕ) → i < length l → Honest (sentAt l i)) → Honest w
-    → (i : ℕ) → i < length (l ++ (w ∷ [])) → Honest (sentAt (l ++ (w ∷ [])) i)
-honest-snoc l w f h i k =
+pub honest-snoc : (sm : Settings) (l : List Sent) (w : Sent) → ((i : ℕ) → i < length l → Honest sm (sentAt l i))
+    → Honest sm w → (i : ℕ) → i < length (l ++ (w ∷ [])) → Honest sm (sentAt (l ++ (w ∷ [])) i)
+honest-snoc sm l w f h i k =
     elim (decLt i (length l)) [
-      | yes g ↦ subst Honest (sym (entry-old l w i g)) (f i g)
-      | no g ↦ let e : i ≡ length l = omega (arith, longer l w) in subst Honest
+      | yes g ↦ subst (Honest sm) (sym (entry-old l w i g)) (f i g)
+      | no g ↦ let e : i ≡ length l = omega (arith, longer l w) in subst (Honest sm)
           (sym (ap (sentAt (l ++ (w ∷ []))) e ∙ entry-new l w)) h
     ]
 

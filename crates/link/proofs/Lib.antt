@@ -3,9 +3,9 @@ pub mod Marks
 pub mod Ages
 pub mod Invariant
 pub mod Kept
+pub mod Codes
 pub mod Relation
 pub mod Entries
-pub mod Codes
 pub mod Shown
 pub mod AtMaster
 pub mod AtSlave

@@ -12,6 +12,7 @@ use borrow.Author.Tests.{ltb-true, ltb-false}
 use Rattle.frame.specs.declared.Command.the-variants as K
 use Rattle.frame.specs.declared.Fields.{Fields}
 use Rattle.frame.specs.Control.{is, codeOf, mayBeBusy}
+use Rattle.words.specs.Words.{wordAt}
 use Rattle.endpoint.specs.declared.Settings.{Settings}
 use Rattle.endpoint.specs.declared.State.the-variants.{Refresh, RefreshPending}
 use Rattle.endpoint.specs.declared.Timestamp.{Timestamp}
@@ -24,13 +25,13 @@ use Rattle.endpoint.specs.Table.{isState, isSetup}
 use Rattle.endpoint.specs.Time.{span, half, masterTime, isAbove, isTooFarAhead, countedAge, isTooLate, isExpired}
 use Rattle.endpoint.specs.Time.{timeOf}
 use Rattle.endpoint.specs.Updates.{endpointOf, withQueue}
-use Rattle.steps.specs.Frames.{showWidth}
-use Rattle.steps.specs.Frames.{paddedOf}
+use Rattle.steps.specs.Frames.{setupData, paddedOf, showWidth}
 use Rattle.link.specs.Runs.{Clocks, Sent, sentAt}
 use Rattle.link.specs.Fresh.{Paired}
 use Rattle.link.proofs.Ages.{compared, le-or-lt}
 use Rattle.link.proofs.Marks.{Mark, mark}
 use Rattle.link.proofs.Invariant.{limit, Terms, Small, asked, got, liveM, Master, armed, liveS, Slave, Inv}
+use Rattle.link.proofs.Codes.{isEstablished}
 
 -- ---- what the invariant's numbers are
 abbrev pub termsOf : Clocks → Settings → Settings → Terms
@@ -118,19 +119,29 @@ pub record ArmedAt (e : Endpoint) (s : Slave) : Type 0 where
   pub phase : s .phase ≡ armed (e .setup .measured)
   pub since : e .since ≡ e .setup .measured
 
-pub record RelS (e : Endpoint) (took : ℕ) (s : Slave) : Type 0 where
+pub record RelS (sm : Settings) (e : Endpoint) (took : ℕ) (s : Slave) : Type 0 where
   pub nextOut : topOf (e .timestamps .sent) ≡ s .nextOut
   pub nextIn : topOf (e .timestamps .accepted) ≡ s .nextIn
   pub held : took ≡ s .held
   pub live : isState (e .state) Refresh ≡ true → LiveAtS e s
   pub ready : isState (e .state) RefreshPending ≡ true → ArmedAt e s
+  -- once S-InitConfirmNetPrm was taken, R is the master's
+  pub agreed : isEstablished (e .state) ≡ true → e .settings .roundtrip ≡ sm .roundtrip
 
 -- ---- both, and the log
--- an entry's frame tells its writer; an S-Refresh that a send was lent its body; and Busy stands where it may
-pub record Honest (w : Sent) : Type 0 where
+-- an entry's frame tells its writer; an S-Refresh that a send was lent its body; Busy stands where it may; and the
+-- master's S-InitConfirmNetPrm has its own settings
+pub record Honest (sm : Settings) (w : Sent) : Type 0 where
   pub writer : w .fields .application ≡ w .slave
   pub value : is (w .fields .command) K.Refresh ≡ true → w .lent ≡ some (w .body)
   pub busy : w .fields .busy ≡ true → mayBeBusy (w .fields .command) ≡ true
+  pub confirms : w .fields .application ≡ false → is (w .fields .command) K.ConfirmNetwork ≡ true
+      → w .body ≡ setupData sm K.ConfirmNetwork
+
+-- R is the second of its words
+pub roundtrip-in : (s : Settings) → wordAt (setupData s K.ConfirmNetwork) 4 ≡ s .roundtrip
+unfolding setupData
+roundtrip-in s = omega arith
 
 pub record Linked (c : Clocks) (sm ss : Settings) (now : ℕ) (l : List Sent) (em es : Endpoint) (tm ts : ℕ) : Type 0
   where
@@ -139,8 +150,8 @@ pub record Linked (c : Clocks) (sm ss : Settings) (now : ℕ) (l : List Sent) (e
     pub setM : em .settings ≡ sm
     pub setS : es .settings ≡ ss
     pub relM : RelM em tm master
-    pub relS : RelS es ts slave
-    pub honest : (i : ℕ) → i < length l → Honest (sentAt l i)
+    pub relS : RelS sm es ts slave
+    pub honest : (i : ℕ) → i < length l → Honest sm (sentAt l i)
     pub inv : Inv (termsOf c sm ss) now (marks l) master slave
 
 -- ---- timers that have not expired, and times

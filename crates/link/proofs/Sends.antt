@@ -16,7 +16,7 @@ use Rattle.frame.specs.Control.{is, codeOf}
 use Rattle.endpoint.specs.declared.Settings.{Settings}
 use Rattle.endpoint.specs.Time.{boundOf}
 use Rattle.link.specs.Runs.{Sent, noSent, sentAt, Show, shown, noShow, showAt}
-use Rattle.link.specs.Fresh.{Paired, ItsSend}
+use Rattle.link.specs.Fresh.{Paired, Aged, ItsSend}
 use Rattle.link.proofs.Marks.{Mark, at}
 use Rattle.link.proofs.Relation.{whoOf, marks, Honest}
 use Rattle.link.proofs.Entries.{size-marks, at-marks}
@@ -27,7 +27,7 @@ pub record HasSend (sm ss : Settings) (log : List Sent) (x : Show) : Type 0 wher
   pub sent : x .sent ≡ suc place
   pub early : place < x .written
   pub known : x .written ≤ length log
-  pub fits : ItsSend (cond (x .slave) ss sm) (sm .roundtrip) x (sentAt log place)
+  pub fits : ItsSend (cond (x .slave) ss sm) x (sentAt log place)
 
 pub record ShowsInv (sm ss : Settings) (log : List Sent) (tm ts : ℕ) (shows : List Show) : Type 0 where
   pub its : (i : ℕ) → i < length shows → HasSend sm ss log (showAt shows i)
@@ -58,7 +58,7 @@ module _ (sm ss : Settings) where
           sent = s .sent;
           early = s .early;
           known = omega arith;
-          fits = subst (ItsSend (cond (showAt shows i .slave) ss sm) (sm .roundtrip) (showAt shows i))
+          fits = subst (ItsSend (cond (showAt shows i .slave) ss sm) (showAt shows i))
               (sym (entry-kept log ext (s .place) (omega arith))) (s .fits);
         };
     below = λ i j. let a = v .below i j in let b = cond-le (showAt shows i .slave) ts ts′ tm tm′ k h in omega arith;
@@ -136,15 +136,23 @@ pub writer-of : (slave : Bool) (f : Fields) → whoOf f ≡ cond slave 0 2 → f
 writer-of true f h = kind-slave (f .application) (is (f .command) K.Refresh) h
 writer-of false f h = kind-master (f .application) (is (f .command) K.Refresh) h
 
--- the highest age, and how far it may be below the true one, are within the bound
-within : (sm ss : Settings) → Paired sm ss → (slave : Bool)
-    → cond slave ss sm .age + cond slave ss sm .interval + cond slave 0 (sm .roundtrip) ≤ boundOf (cond slave ss sm)
-within sm ss p true = rw (p .slave) (omega arith)
-within sm ss p false = rw (p .master) (omega arith)
+role-at : {sm ss : Settings} → Paired sm ss → (slave : Bool) → cond slave ss sm .slave ≡ slave
+role-at p true = p .slave
+role-at p false = p .master
+
+-- how old it is; by cases on the role, so that arithmetic sees R and not a choice
+aged-at : (slave : Bool) (s : Settings) {l : List Mark} {kind took m f n : ℕ} {v : List ℕ} → s .slave ≡ slave
+    → (h : ShownAt l kind took m f (marginAt slave s) v) → Aged s (shown slave m v f took n) (at l (h .place) .moment)
+aged-at true s e h =
+    let b : boundOf s ≡ s .age + s .interval = rw e (omega arith) in
+    record { before = h .past; young = omega arith; low = omega arith; high = omega arith; most = omega arith }
+aged-at false s e h =
+    let b : boundOf s ≡ s .age + s .interval + s .roundtrip = rw e (omega arith) in
+    record { before = h .past; young = omega arith; low = omega arith; high = omega arith; most = omega arith }
 
 pub sent-by : (sm ss : Settings) → Paired sm ss → (log : List Sent) (slave : Bool) (took m age : ℕ) (bytes : List ℕ)
-    → ((i : ℕ) → i < length log → Honest (sentAt log i))
-    → ShownAt (marks log) (cond slave 0 2) took m age (marginAt slave sm ss) bytes
+    → ((i : ℕ) → i < length log → Honest sm (sentAt log i))
+    → ShownAt (marks log) (cond slave 0 2) took m age (marginAt slave (cond slave ss sm)) bytes
     → HasSend sm ss log (shown slave m bytes age took (length log))
 sent-by sm ss p log slave took m age bytes honest s =
     let k = s .place in
@@ -154,12 +162,6 @@ sent-by sm ss p log slave took m age bytes honest s =
     let w : whoOf (sentAt log k .fields) ≡ cond slave 0 2 = sym (ap (λ (y : Mark). y .who) q) ∙ s .who in
     let r : is (sentAt log k .fields .command) K.Refresh ≡ true =
     eq-eqb (codeOf (sentAt log k .fields .command)) 255 (sym (ap (λ (y : Mark). y .code) q) ∙ s .code) in
-    let o : at (marks log) k .moment ≡ sentAt log k .moment = ap (λ (y : Mark). y .moment) q in
-    let a = s .past in
-    let lo = s .low in
-    let hi = s .high in
-    let most = s .most in
-    let b = within sm ss p slave in
     record {
       place = k;
       sent = s .held;
@@ -169,12 +171,7 @@ sent-by sm ss p log slave took m age bytes honest s =
         other = sym (h .writer) ∙ writer-of slave (sentAt log k .fields) w;
         refresh = r;
         value = h .value r ∙ ap some (sym (ap (λ (y : Mark). y .body) q) ∙ s .body);
-        aged = record {
-          before = omega arith;
-          young = omega arith;
-          low = omega arith;
-          high = omega arith;
-          most = most;
-        };
+        aged = subst (Aged (cond slave ss sm) (shown slave m bytes age took (length log)))
+            (ap (λ (y : Mark). y .moment) q) (aged-at slave (cond slave ss sm) (role-at p slave) s);
       };
     }

@@ -23,12 +23,12 @@ use Rattle.link.proofs.Ages.{Pace}
 use Rattle.link.proofs.Invariant.{creep, Held, Margin, ValueOf}
 use Rattle.link.proofs.Relation.{Holds}
 
--- the margin of a shown age, by the settings of both ends
-abbrev pub marginAt : Bool → Settings → Settings → Margin
-marginAt slave sm ss = record {
-  most = cond slave ss sm .age + cond slave ss sm .interval;
-  low = cond slave 0 (sm .roundtrip);
-  high = cond slave (sm .roundtrip) 0;
+-- the margin of a shown age, by the settings of the end that shows it
+abbrev pub marginAt : Bool → Settings → Margin
+marginAt slave s = record {
+  most = s .age + s .interval;
+  low = cond slave 0 (s .roundtrip);
+  high = cond slave (s .roundtrip) 0;
 }
 
 -- a margin when the value is taken, and one that serves for i ticks more

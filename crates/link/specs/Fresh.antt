@@ -1,5 +1,5 @@
--- Demand 3 for two endpoints: every value shown has its send, in order, and is not too old; and the age that it is shown
--- with is close to the true one.
+-- Demand 3 for two endpoints: every value shown has its send, in order, and is not too old; and the age that it is
+-- shown with is close to the true one.
 use mathlib.Core.Path.{_≡_}
 use mathlib.Core.Bool.{Bool, true, false, not, cond}
 use mathlib.Core.List.{List}
@@ -20,23 +20,24 @@ pub record Paired (sm ss : Settings) : Type 0 where
   pub ticksM : Ticks sm
   pub ticksS : Ticks ss
 
--- how old a shown value is that was sent at a moment; s are the settings of the end that shows it, and R the master's
-pub record Aged (s : Settings) (roundtrip : ℕ) (x : Show) (sent : ℕ) : Type 0 where
+-- how old a shown value is that was sent at a moment; A, I and R are those of the end that shows it
+pub record Aged (s : Settings) (x : Show) (sent : ℕ) : Type 0 where
   -- no older than the bound: A + I at the slave, A + I + R at the master
   pub before : sent ≤ x .moment
   pub young : x .moment ≤ sent + boundOf s
-  -- the age that it is shown with: at the slave the true one or up to R above, at the master the true one or up to R below
-  pub low : x .moment ≤ sent + x .age + cond (x .slave) 0 roundtrip
-  pub high : sent + x .age ≤ x .moment + cond (x .slave) roundtrip 0
+  -- the age that it is shown with: at the slave the true one or up to R above, at the master the true one or up to R
+  -- below
+  pub low : x .moment ≤ sent + x .age + cond (x .slave) 0 (s .roundtrip)
+  pub high : sent + x .age ≤ x .moment + cond (x .slave) (s .roundtrip) 0
   -- and at most A + I
   pub most : x .age ≤ s .age + s .interval
 
 -- the send of a show: by the other end, an S-Refresh, lent the value shown, and not too old
-pub record ItsSend (s : Settings) (roundtrip : ℕ) (x : Show) (w : Sent) : Type 0 where
+pub record ItsSend (s : Settings) (x : Show) (w : Sent) : Type 0 where
   pub other : w .slave ≡ not (x .slave)
   pub refresh : is (w .fields .command) K.Refresh ≡ true
   pub value : w .lent ≡ some (x .bytes)
-  pub aged : Aged s roundtrip x (w .moment)
+  pub aged : Aged s x (w .moment)
 
 pub record Fresh (sm ss : Settings) (l : Link) : Type 0 where
   -- each show's send was written before it: the frame of the S-Refresh that the showing end took last
@@ -44,7 +45,7 @@ pub record Fresh (sm ss : Settings) (l : Link) : Type 0 where
       → (1 ≤ showAt (l .shows) i .sent) × (showAt (l .shows) i .sent ≤ showAt (l .shows) i .written)
       × (showAt (l .shows) i .written ≤ length (l .log))
   pub its-send : (i k : ℕ) → i < length (l .shows) → showAt (l .shows) i .sent ≡ suc k
-      → ItsSend (cond (showAt (l .shows) i .slave) ss sm) (sm .roundtrip) (showAt (l .shows) i) (sentAt (l .log) k)
+      → ItsSend (cond (showAt (l .shows) i .slave) ss sm) (showAt (l .shows) i) (sentAt (l .log) k)
   -- a later show at the same end never has an earlier send
   pub in-order : (i j : ℕ) → i < j → j < length (l .shows) → showAt (l .shows) i .slave ≡ showAt (l .shows) j .slave
       → showAt (l .shows) i .sent ≤ showAt (l .shows) j .sent
