@@ -72,7 +72,7 @@ extern "C" {
 /*
  * The answers. Where several apply, the first in this order is given: 1; 2 for too few records;
  * then all timers are tested (the clock step); 2 for an output that is too short; 3, or 4 to 8; 9;
- * 10 and so on, 20 before 12 and 19 after it. A loading knows 18 and 2 only.
+ * 10 and so on, 21 and 20 before 12 and 19 after it. A loading knows 18 and 2 only.
  *
  * From 9 on, 18 apart, and with 0 (load and a delivery of 0 bytes apart) the connection is named.
  * Loading apart, 1, and 2 for too few records, change nothing. All others leave what the clock
@@ -107,7 +107,8 @@ enum folderpink_number {
     /*
      * form: Cmd unlisted; Ack, Error or Application not allowed with this Cmd; Busy outside a
      * reply to S-InitConfirmNetPrm, S-InitVerifyStnPrm, S-InvokeFunc or S-RefreshReady; OBL not 0
-     * outside an S-RefreshGO request; another bit of CTRL, or RSV, not 0.
+     * outside an S-RefreshGO request; Sub CID active in an S-Connect request; Sub CID not 0 where
+     * it is not active; another bit of CTRL, or RSV, not 0.
      */
     FOLDERPINK_FORM = 7,
 
@@ -154,7 +155,13 @@ enum folderpink_number {
      * record: not an error record, as its length or a digit, date, count or flag is out of range;
      * the connection stays.
      */
-    FOLDERPINK_RECORD = 20
+    FOLDERPINK_RECORD = 20,
+
+    /*
+     * session: a frame without a session number, or with another than the connection's; the
+     * connection stays.
+     */
+    FOLDERPINK_SESSION = 21
 };
 
 /* The states of a connection; above 9 is Terminate too. */
@@ -209,6 +216,9 @@ struct folderpink_stored {
     uint8_t errorinfo; /* how many words of an error record were handed over: a slave's, 0 for
                           none; a master's, where S-WriteErrorInfo waits */
     uint8_t taken;     /* a flag: a value was accepted in this Refresh */
+    uint16_t session;  /* the session number, where hassession is set: a slave's as it was given, a
+                          master's as the S-Connect reply had it */
+    uint8_t hassession;
 };
 
 /*
@@ -232,15 +242,16 @@ struct folderpink_gateway {
 };
 
 /*
- * What a call is asked with. The caller sets clock, entry, notready and word as each call needs
- * them; they stay. gateway is the library's, from folderpink_load on: each call leaves in it what
- * the next one needs.
+ * What a call is asked with. The caller sets clock, entry, notready, session and word as each call
+ * needs them; they stay. gateway is the library's, from folderpink_load on: each call leaves in it
+ * what the next one needs.
  */
 struct folderpink_call {
     struct folderpink_gateway gateway;
     uint64_t clock;                    /* the caller's clock reading */
     size_t entry;                      /* the connection, from 0 on; deliver does not look at it */
     uint8_t notready;                  /* a flag, of set_not_ready alone */
+    uint16_t session;                  /* the session number, of load and restart alone */
     uint32_t word;                     /* the command word, of invoke alone */
 };
 
@@ -267,8 +278,14 @@ struct folderpink_told {
  *
  * Done, the list's connections are in the first records, all in Close; the records before may
  * have held anything, zeros for example. Refused (18, or 2 for too few records), the records stay
- * and the table is of no connections. Records past the table stay in every call. Of the call
- * nothing is looked at, and the gateway is set.
+ * and the table is of no connections. Records past the table stay in every call. Of the call only
+ * session is looked at, and the gateway is set.
+ *
+ * call.session is the session number of the list's slaves; a list without slaves does not look at
+ * it. The slave's replies bring it to the master, every later frame of both carries it until the
+ * slave's restart, and a frame with another is refused (21). Where frames of before the loading may
+ * still travel, none of those may carry it, nor the number of a later restart: what the link
+ * promises of a shown value counts on this.
  */
 struct folderpink_told folderpink_load(struct folderpink_call *call,
                                        struct folderpink_record *records, size_t records_length,
@@ -278,7 +295,10 @@ struct folderpink_told folderpink_load(struct folderpink_call *call,
 struct folderpink_told folderpink_start(struct folderpink_call *call,
                                         struct folderpink_record *records, size_t records_length);
 
-/* From Terminate to Close. Timestamps are remembered. */
+/*
+ * From Terminate to Close. Timestamps are remembered. call.session is a slave's session number from
+ * now on; a master's restart does not look at it, and forgets the number that it had.
+ */
 struct folderpink_told folderpink_restart(struct folderpink_call *call,
                                           struct folderpink_record *records, size_t records_length);
 
@@ -445,6 +465,8 @@ FOLDERPINK_LAYOUT(offsetof(struct folderpink_stored, notready) == 86);
 FOLDERPINK_LAYOUT(offsetof(struct folderpink_stored, words) == 87);
 FOLDERPINK_LAYOUT(offsetof(struct folderpink_stored, errorinfo) == 88);
 FOLDERPINK_LAYOUT(offsetof(struct folderpink_stored, taken) == 89);
+FOLDERPINK_LAYOUT(offsetof(struct folderpink_stored, session) == 90);
+FOLDERPINK_LAYOUT(offsetof(struct folderpink_stored, hassession) == 92);
 
 FOLDERPINK_LAYOUT(sizeof(struct folderpink_record) == 352);
 FOLDERPINK_LAYOUT(FOLDERPINK_ALIGN(struct folderpink_record) == 8);
@@ -464,6 +486,7 @@ FOLDERPINK_LAYOUT(offsetof(struct folderpink_call, gateway) == 0);
 FOLDERPINK_LAYOUT(offsetof(struct folderpink_call, clock) == 16);
 FOLDERPINK_LAYOUT(offsetof(struct folderpink_call, entry) == 24);
 FOLDERPINK_LAYOUT(offsetof(struct folderpink_call, notready) == 32);
+FOLDERPINK_LAYOUT(offsetof(struct folderpink_call, session) == 34);
 FOLDERPINK_LAYOUT(offsetof(struct folderpink_call, word) == 36);
 
 FOLDERPINK_LAYOUT(sizeof(struct folderpink_told) == 32);

@@ -30,12 +30,12 @@ typedef uint8_t check_function(const uint8_t *bytes, size_t length);
 
 static uint8_t frames[FRAMES][FOLDERPINK_FRAME_MAX];
 
-/* S-Refresh of the slave 1/3 to the master 1/2. */
+/* S-Refresh of the slave 1/3 to the master 1/2, in session 7. */
 static void make_frame(uint8_t *frame, size_t length, uint32_t stamp)
 {
     const size_t half = length / 2;
 
-    put_word(frame, 0xFF040000u);
+    put_word(frame, 0xFF050007u);
     put_word(frame + 4, 0x01020103u);
     put_word(frame + 8, stamp << 16);
     put_word(frame + 12, 1);

@@ -1,6 +1,6 @@
 /*
  * Host test of folderpink_check_frame: compares it with the reference, and with the answer
- * that document 01 settles, on sound frames, damaged frames and other byte strings.
+ * that documents 01 and 02 settle, on sound frames, damaged frames and other byte strings.
  * Ends at the first difference with a dump of the bytes and a non-zero exit status.
  */
 #define _DEFAULT_SOURCE
@@ -38,13 +38,18 @@ _Static_assert(FOLDERPINK_FRAME_MAX == 248, "longest frame");
 
 #define FRAME_STEP 8
 
+#define CONNECT_REQUEST 0x00000000u
 #define GO_REQUEST 0xFE000000u
 
 #define COUNT_OF(array) (sizeof(array) / sizeof((array)[0]))
 
-/* Every CTRL word of a sound frame: requests, replies and replies with Error. */
+/*
+ * Every CTRL word of a sound frame without a session number: requests, replies and replies with
+ * Error. All but the first are sound with each session number too.
+ */
 static const uint32_t legal_ctrl[] = {
-    0x00000000u, 0x00840000u, 0x00A40000u, /* S-Connect */
+    CONNECT_REQUEST,                       /* S-Connect */
+    0x00840000u, 0x00A40000u,
     0x01000000u, 0x01840000u, 0x01A40000u, /* S-InitConfirmNetPrm */
     0x02000000u, 0x02840000u, 0x02A40000u, /* S-InitVerifyStnPrm */
     0x03000000u, 0x03840000u, 0x03A40000u, /* S-InvokeFunc */
@@ -230,12 +235,18 @@ static void make_frame(uint8_t *frame, size_t length, uint32_t ctrl, uint32_t ob
     seal(frame, length);
 }
 
-static uint32_t legal_obl(uint32_t ctrl)
+/* With a session number, which may be any. */
+static uint32_t in_session(uint32_t ctrl, uint32_t number)
 {
-    return ctrl == GO_REQUEST ? random_below(0x10000) : 0;
+    return ctrl | SUB_CID_ACTIVE | number;
 }
 
-static bool is_legal_ctrl(uint32_t ctrl)
+static uint32_t without_session(uint32_t ctrl)
+{
+    return ctrl & ~SESSION;
+}
+
+static bool is_listed_ctrl(uint32_t ctrl)
 {
     for (size_t i = 0; i < COUNT_OF(legal_ctrl); i++) {
         if (legal_ctrl[i] == ctrl) {
@@ -245,6 +256,37 @@ static bool is_legal_ctrl(uint32_t ctrl)
     return false;
 }
 
+static bool is_legal_ctrl(uint32_t ctrl)
+{
+    const uint32_t rest = without_session(ctrl);
+
+    if (ctrl & SUB_CID_ACTIVE) {
+        return is_listed_ctrl(rest) && rest != CONNECT_REQUEST;
+    }
+    return is_listed_ctrl(ctrl);
+}
+
+static bool may_have_obl(uint32_t ctrl)
+{
+    return without_session(ctrl) == GO_REQUEST;
+}
+
+static uint32_t legal_obl(uint32_t ctrl)
+{
+    return may_have_obl(ctrl) ? random_below(0x10000) : 0;
+}
+
+/* One of the listed words, in a session or in none. */
+static uint32_t random_legal_ctrl(void)
+{
+    const uint32_t ctrl = legal_ctrl[random_below(COUNT_OF(legal_ctrl))];
+
+    if (ctrl == CONNECT_REQUEST || random_below(2) == 0) {
+        return ctrl;
+    }
+    return in_session(ctrl, random_below(0x10000));
+}
+
 /* The answer for a frame whose length, copies and check word are right. */
 static int answer_by_form(const uint8_t *frame)
 {
@@ -252,7 +294,7 @@ static int answer_by_form(const uint8_t *frame)
     const uint32_t obl = get_word(frame + AT_TCODE_OBL) & 0xFFFFu;
     const uint32_t rsv = get_word(frame + AT_RSV);
 
-    if (!is_legal_ctrl(ctrl) || rsv != 0 || (obl != 0 && ctrl != GO_REQUEST)) {
+    if (!is_legal_ctrl(ctrl) || rsv != 0 || (obl != 0 && !may_have_obl(ctrl))) {
         return FOLDERPINK_FORM;
     }
     return FOLDERPINK_DONE;
@@ -390,6 +432,22 @@ static const struct {
     {{0xFBA40000u, 0x01020103u, 0x03E80000u, 0, 0, 0, 0xAC6A3805u}, 0},
     /* S-WriteErrorInfo reply without Application */
     {{0xFB800000u, 0x01020103u, 0x03E80000u, 0, 0, 0, 0xF7BD08BAu}, 7},
+    /* S-Refresh of the slave in session 7 */
+    {{0xFF050007u, 0x01020103u, 0x00040000u, 1, 0, 42, 0xCEE346C5u}, 0},
+    /* the same in session 0 */
+    {{0xFF050000u, 0x01020103u, 0x00040000u, 1, 0, 42, 0xEDD43746u}, 0},
+    /* the same with Sub CID 7, but not active */
+    {{0xFF040007u, 0x01020103u, 0x00040000u, 1, 0, 42, 0xBB30B6FDu}, 7},
+    /* S-Connect reply in session 7 */
+    {{0x00850007u, 0x01020103u, 0x03E80000u, 0, 0, 1, 0x26024A5Bu}, 0},
+    /* S-Connect request in session 7 */
+    {{0x00010007u, 0x01020103u, 0x03E80000u, 0, 0, 1, 0xDAAB0B10u}, 7},
+    /* the same in session 0 */
+    {{0x00010000u, 0x01020103u, 0x03E80000u, 0, 0, 1, 0xF99C7A93u}, 7},
+    /* S-Disconnect in session 65,535 */
+    {{0xF901FFFFu, 0x01020103u, 0x03E80000u, 0, 0, 0, 0xFBDA0B32u}, 0},
+    /* S-RefreshReady request in session 7 with the reserved bit */
+    {{0xFC030007u, 0x01020103u, 0x03E80000u, 0, 0, 0, 0x4D2F4892u}, 7},
     /* Cmd 0x04 */
     {{0x04000000u, 0x01020103u, 0x03E80000u, 0, 0, 0, 0x9CC3EE72u}, 7},
 };
@@ -427,7 +485,10 @@ static void test_fixed_lengths(void)
 
 /* ---- All values of one part of the frame ---- */
 
-/* Cmd and the bits 23 to 16; of the 65,536 values only the listed ones are sound. */
+/*
+ * Cmd and the bits 23 to 16; of the 65,536 values only the listed ones are sound, and all but one
+ * of these in session 0.
+ */
 static void test_every_ctrl_upper_half(void)
 {
     const uint64_t sound_before = counts[FOLDERPINK_DONE];
@@ -437,20 +498,26 @@ static void test_every_ctrl_upper_half(void)
         make_frame(frame, sizeof frame, upper << 16, 0, 0);
         compare(frame, sizeof frame, answer_by_form(frame));
     }
-    if (counts[FOLDERPINK_DONE] - sound_before != COUNT_OF(legal_ctrl)) {
+    if (counts[FOLDERPINK_DONE] - sound_before != 2 * COUNT_OF(legal_ctrl) - 1) {
         stop("number of sound CTRL words is not as listed");
     }
 }
 
+/* Without Sub CID active, and with it: in an S-Connect request, and in others. */
 static void test_every_sub_cid(void)
 {
     uint8_t frame[FOLDERPINK_FRAME_MIN];
 
-    for (uint32_t sub_cid = 1; sub_cid < 0x10000; sub_cid++) {
+    for (uint32_t sub_cid = 0; sub_cid < 0x10000; sub_cid++) {
         const uint32_t ctrl = legal_ctrl[random_below(COUNT_OF(legal_ctrl))];
+        const uint32_t other = legal_ctrl[1 + random_below(COUNT_OF(legal_ctrl) - 1)];
 
-        make_frame(frame, sizeof frame, ctrl | sub_cid, 0, 0);
+        make_frame(frame, sizeof frame, ctrl | sub_cid, legal_obl(ctrl), 0);
+        compare(frame, sizeof frame, sub_cid == 0 ? FOLDERPINK_DONE : FOLDERPINK_FORM);
+        make_frame(frame, sizeof frame, in_session(CONNECT_REQUEST, sub_cid), 0, 0);
         compare(frame, sizeof frame, FOLDERPINK_FORM);
+        make_frame(frame, sizeof frame, in_session(other, sub_cid), legal_obl(other), 0);
+        compare(frame, sizeof frame, FOLDERPINK_DONE);
     }
 }
 
@@ -459,12 +526,12 @@ static void test_every_obl(void)
     uint8_t frame[FOLDERPINK_FRAME_MIN];
 
     for (uint32_t obl = 1; obl < 0x10000; obl++) {
-        const uint32_t ctrl = legal_ctrl[random_below(COUNT_OF(legal_ctrl))];
+        const uint32_t ctrl = random_legal_ctrl();
 
         make_frame(frame, sizeof frame, GO_REQUEST, obl, 0);
         compare(frame, sizeof frame, FOLDERPINK_DONE);
         make_frame(frame, sizeof frame, ctrl, obl, 0);
-        compare(frame, sizeof frame, ctrl == GO_REQUEST ? FOLDERPINK_DONE : FOLDERPINK_FORM);
+        compare(frame, sizeof frame, may_have_obl(ctrl) ? FOLDERPINK_DONE : FOLDERPINK_FORM);
     }
 }
 
@@ -506,8 +573,9 @@ static void test_every_bit_of_every_length(void)
 {
     for (size_t length = FOLDERPINK_FRAME_MIN; length <= FOLDERPINK_FRAME_MAX;
          length += FRAME_STEP) {
-        test_every_bit(length, legal_ctrl[random_below(COUNT_OF(legal_ctrl))]);
+        test_every_bit(length, random_legal_ctrl());
         test_every_bit(length, 0xFF040000u);
+        test_every_bit(length, 0xFF050007u);
     }
 }
 
@@ -639,7 +707,10 @@ static void compare_other_fields(size_t length, uint32_t ctrl)
     compare(frame, length, FOLDERPINK_FORM);
 
     make_frame(frame, length, ctrl, not_zero, 0);
-    compare(frame, length, ctrl == GO_REQUEST ? FOLDERPINK_DONE : FOLDERPINK_FORM);
+    compare(frame, length, may_have_obl(ctrl) ? FOLDERPINK_DONE : FOLDERPINK_FORM);
+
+    make_frame(frame, length, without_session(ctrl) | not_zero, legal_obl(ctrl), 0);
+    compare(frame, length, FOLDERPINK_FORM);
 }
 
 /* SubPDU-A of one sound frame with SubPDU-B of another. */
@@ -675,6 +746,7 @@ static void test_random_frames(void)
              length += FRAME_STEP) {
             for (size_t i = 0; i < COUNT_OF(legal_ctrl); i++) {
                 test_sound_and_damaged(length, legal_ctrl[i]);
+                test_sound_and_damaged(length, random_legal_ctrl());
             }
         }
     }

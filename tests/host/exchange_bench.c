@@ -27,6 +27,8 @@
 #define EXCHANGES_PER_ROUND 1920
 #define EXCHANGES_TESTED 640
 
+#define SESSION_NUMBER 7
+
 /* With a record copied once more in each call an exchange of 1 word took 1.9 times C's. */
 #define RATIO_MAX 1.75
 
@@ -104,6 +106,7 @@ static void product_load(enum end end, size_t connections, const uint32_t *list)
     struct folderpink_told told;
 
     product_ends[end].lent = connections;
+    product_ends[end].call.session = SESSION_NUMBER;
     told = folderpink_load(&product_ends[end].call, product_ends[end].records, connections, list,
                            7 * connections);
     if (told.number != FOLDERPINK_DONE) {
@@ -155,7 +158,7 @@ INLINE struct answer reference_answer(struct reference_called called)
 
 static void load_reference(enum end end, size_t connections, const uint32_t *list)
 {
-    reference_load(&reference_ends[end], reference_records[end], connections, list,
+    reference_load(&reference_ends[end], reference_records[end], connections, SESSION_NUMBER, list,
                    7 * connections);
 }
 

@@ -124,6 +124,11 @@ static size_t write_frame(uint8_t *out, const struct fields *fields, const uint8
     return 2 * half;
 }
 
+static uint32_t session_of(const struct fields *fields)
+{
+    return fields->ctrl & SESSION;
+}
+
 static struct fields read_fields(const uint8_t *frame)
 {
     const uint32_t time = get_word(frame + AT_TCODE_OBL);
@@ -212,7 +217,7 @@ static size_t send_request(struct reference_record *record, uint64_t clock, uint
     const uint32_t command = command_due(record->state);
     const bool go = command == S_REFRESH_GO;
     const struct fields fields = {
-        .ctrl = command << 24,
+        .ctrl = command << 24 | (command == S_CONNECT ? 0 : record->session),
         .cid = record->cid,
         .stamp = stamp,
         .obl = go ? (uint16_t)(clock - record->measured) : 0,
@@ -234,7 +239,7 @@ static struct reference_called take_request(struct reference_record *record, int
 {
     const uint32_t command = fields->ctrl >> 24;
     struct fields reply = {
-        .ctrl = command << 24 | ACK | APPLICATION,
+        .ctrl = command << 24 | ACK | APPLICATION | record->session,
         .cid = record->cid,
         .stamp = fields->stamp,
         .obl = 0,
@@ -244,6 +249,9 @@ static struct reference_called take_request(struct reference_record *record, int
 
     if (!takes(record->state, command)) {
         return gives(FOLDERPINK_TURN, entry, 0);
+    }
+    if (command != S_CONNECT && session_of(fields) != record->session) {
+        return gives(FOLDERPINK_SESSION, entry, 0);
     }
     if (length != due_length) {
         return gives(FOLDERPINK_WIDTH, entry, 0);
@@ -274,6 +282,15 @@ static struct reference_called take_request(struct reference_record *record, int
     return gives(FOLDERPINK_DONE, entry, write_frame(out, &reply, data, length));
 }
 
+/* The session number comes with the reply to S-Connect, any one; later replies repeat it. */
+static bool is_session(const struct reference_record *record, const struct fields *fields)
+{
+    if (fields->ctrl >> 24 == S_CONNECT) {
+        return session_of(fields) != 0;
+    }
+    return session_of(fields) == record->session;
+}
+
 /* A reply at a master. */
 static struct reference_called take_reply(struct reference_record *record, int entry,
                                           uint64_t clock, const struct fields *fields,
@@ -286,6 +303,9 @@ static struct reference_called take_reply(struct reference_record *record, int e
     if (!is_setup(record->state) || !(fields->ctrl & ACK) || !record->pending.known ||
         fields->ctrl >> 24 != command) {
         return gives(FOLDERPINK_TURN, entry, 0);
+    }
+    if (!is_session(record, fields)) {
+        return gives(FOLDERPINK_SESSION, entry, 0);
     }
     if (length != due_length) {
         return gives(FOLDERPINK_WIDTH, entry, 0);
@@ -300,6 +320,7 @@ static struct reference_called take_reply(struct reference_record *record, int e
     if (command == S_REFRESH_READY) {
         record->measured = clock;
     }
+    record->session = session_of(fields);
     record->state = state_after(command);
     record->since = clock;
     record->pending.known = false;
@@ -322,7 +343,7 @@ static size_t send_refresh(struct reference_record *record, uint64_t stamp, cons
                            size_t length, uint8_t *out)
 {
     const struct fields fields = {
-        .ctrl = S_REFRESH << 24 | (record->slave ? APPLICATION : 0),
+        .ctrl = S_REFRESH << 24 | (record->slave ? APPLICATION : 0) | record->session,
         .cid = record->cid,
         .stamp = stamp,
         .obl = 0,
@@ -333,15 +354,19 @@ static size_t send_refresh(struct reference_record *record, uint64_t stamp, cons
 }
 
 static struct reference_called take_refresh(struct reference_record *record, int entry,
-                                            uint64_t clock, uint64_t stamp, const uint8_t *data,
-                                            size_t length)
+                                            uint64_t clock, const struct fields *fields,
+                                            const uint8_t *data, size_t length)
 {
+    const uint64_t stamp = fields->stamp;
     const uint64_t age = (master_time(record, clock) - stamp) % STAMP_SPAN;
     const uint64_t counted = age >= STAMP_HALF ? 0 : age;
     const uint32_t allowance = record->slave ? 0 : record->round_trip;
 
     if (record->state != FOLDERPINK_REFRESH) {
         return gives(FOLDERPINK_TURN, entry, 0);
+    }
+    if (session_of(fields) != record->session) {
+        return gives(FOLDERPINK_SESSION, entry, 0);
     }
     if (length != show_width(record)) {
         return gives(FOLDERPINK_WIDTH, entry, 0);
@@ -369,15 +394,16 @@ static struct reference_called take_refresh(struct reference_record *record, int
 
 /* The list is a right one, and the records are as many as its connections at least. */
 void reference_load(struct reference_gateway *gateway, struct reference_record *records,
-                    size_t lent, const uint32_t *list, size_t length)
+                    size_t lent, uint16_t session, const uint32_t *list, size_t length)
 {
     *gateway = (struct reference_gateway){.records = records, .lent = lent, .count = length / 7};
     for (size_t i = 0; i < gateway->count; i++) {
         const uint32_t *words = list + 7 * i;
+        const bool slave = words[2] >> 10 & 1u;
 
         records[i] = (struct reference_record){
             .cid = words[0] << 16 | (words[1] & 0xFFFFu),
-            .slave = words[2] >> 10 & 1u,
+            .slave = slave,
             .master_words = words[2] >> 5 & 31u,
             .slave_words = words[2] & 31u,
             .interval = words[3] & 0xFFFFu,
@@ -385,6 +411,7 @@ void reference_load(struct reference_gateway *gateway, struct reference_record *
             .age = words[5] & 0xFFFFu,
             .station = words[6] & 0xFFFFFFFu,
             .state = FOLDERPINK_CLOSE,
+            .session = slave ? SUB_CID_ACTIVE | session : 0,
         };
     }
 }
@@ -511,7 +538,7 @@ struct reference_called reference_deliver(struct reference_gateway *gateway, uin
         return gives(FOLDERPINK_ECHO, entry, 0);
     }
     if (fields.ctrl >> 24 == S_REFRESH) {
-        return take_refresh(record, entry, clock, fields.stamp, data, data_length);
+        return take_refresh(record, entry, clock, &fields, data, data_length);
     }
     if (record->slave) {
         return take_request(record, entry, clock, &fields, data, data_length, out);

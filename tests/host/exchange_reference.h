@@ -27,6 +27,7 @@ struct reference_record {
     uint32_t age;
     uint32_t station;
     enum folderpink_state state;
+    uint32_t session; /* as CTRL has it: 0 without a number */
     uint64_t since;
     struct reference_stamp sent;
     struct reference_stamp accepted;
@@ -57,7 +58,7 @@ struct reference_called {
 };
 
 void reference_load(struct reference_gateway *gateway, struct reference_record *records,
-                    size_t lent, const uint32_t *list, size_t length);
+                    size_t lent, uint16_t session, const uint32_t *list, size_t length);
 struct reference_called reference_start(struct reference_gateway *gateway, uint64_t clock,
                                         size_t n);
 struct reference_called reference_send(struct reference_gateway *gateway, uint64_t clock, size_t n,

@@ -12,7 +12,7 @@
 
 #define GENERATOR 0x1EDC6F41u
 
-#define ALWAYS_ZERO (OFFSET_OP_SEQ | MO_BUSY | RESERVED | SUB_CID_ACTIVE | SUB_CID)
+#define ALWAYS_ZERO (OFFSET_OP_SEQ | MO_BUSY | RESERVED)
 
 static uint32_t crc_table[256];
 
@@ -63,6 +63,15 @@ static bool is_check_word_right(const uint8_t *subpdu, size_t length)
     return reference_crc32c(subpdu, covered) == get_word(subpdu + covered);
 }
 
+/* A session number stands in Sub CID, with Sub CID active; an S-Connect request has none. */
+static bool is_session_right(uint32_t ctrl)
+{
+    if (ctrl & SUB_CID_ACTIVE) {
+        return ctrl >> 24 != S_CONNECT || (ctrl & ACK) != 0;
+    }
+    return (ctrl & SUB_CID) == 0;
+}
+
 static bool is_form_right(const uint8_t *subpdu)
 {
     const uint32_t ctrl = get_word(subpdu + AT_CTRL);
@@ -72,7 +81,7 @@ static bool is_form_right(const uint8_t *subpdu)
     const bool error = (ctrl & ERROR) != 0;
     const bool application = (ctrl & APPLICATION) != 0;
 
-    if ((ctrl & ALWAYS_ZERO) != 0 || get_word(subpdu + AT_RSV) != 0) {
+    if ((ctrl & ALWAYS_ZERO) != 0 || get_word(subpdu + AT_RSV) != 0 || !is_session_right(ctrl)) {
         return false;
     }
     if (error && !ack) {

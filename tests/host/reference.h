@@ -1,5 +1,5 @@
 /*
- * Frame check in plain C, written from document 01 alone: the host test compares
+ * Frame check in plain C, written from documents 01 and 02 alone: the host test compares
  * folderpink_check_frame with it, the benchmark takes it as the baseline.
  */
 #ifndef REFERENCE_H

@@ -63,6 +63,7 @@ static struct folderpink_record records[RECORDS_MAX];
 static struct folderpink_call call;
 static size_t lent = FOLDERPINK_CONNECTIONS_MAX;
 static size_t room = FOLDERPINK_OUTPUT_MIN;
+static size_t session;
 static uint8_t output[ROOM_MAX];
 static size_t stack_most;
 
@@ -253,6 +254,9 @@ static bool read_call(struct text line)
     if (is(word, "room")) {
         return set(&room, rest, ROOM_MAX);
     }
+    if (is(word, "session")) {
+        return set(&session, rest, UINT16_MAX);
+    }
     if (is(word, "load")) {
         now.kind = LOAD;
         return read_list(line);
@@ -333,7 +337,7 @@ static struct folderpink_call asked;
 static bool is_dirty(size_t count)
 {
     if (call.clock != asked.clock || call.entry != asked.entry || call.notready != asked.notready ||
-        call.word != asked.word) {
+        call.session != asked.session || call.word != asked.word) {
         return true;
     }
     for (size_t i = count; i < sizeof output; i++) {
@@ -373,6 +377,7 @@ static void run_call(void)
     }
     memset(output, FILL, sizeof output);
     call.notready = now.kind == NOT_READY;
+    call.session = (uint16_t)session;
     asked = call;
     used = stack_used(make_call);
     stack_most = used > stack_most ? used : stack_most;

@@ -37,6 +37,9 @@
 #define SUB_CID_ACTIVE 0x00010000u
 #define SUB_CID 0x0000FFFFu
 
+/* The session number: no bit set without one. */
+#define SESSION (SUB_CID_ACTIVE | SUB_CID)
+
 static inline uint32_t get_word(const uint8_t *at)
 {
     return (uint32_t)at[0] << 24 | (uint32_t)at[1] << 16 | (uint32_t)at[2] << 8 | at[3];

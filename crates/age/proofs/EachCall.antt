@@ -1,13 +1,14 @@
 -- Every call on a gateway has its match on the endpoint of the CID.
-use mathlib.Core.Path.{_≡_, refl, sym, ap, subst, _∙_}
-use mathlib.Core.Bool.{Bool, true, false, _&&_, not, cond, false≢true}
-use mathlib.Core.List.{List, [], _∷_}
-use Prim.Native.Nat.{ℕ, zero, suc, _≤_, _<_}
+use mathlib.Core.Path.{_≡_, refl, sym, ap, ap₂, subst, _∙_}
+use mathlib.Core.Bool.{Bool, true, false, _&&_, _||_, not, cond}
+use mathlib.Core.List.{List, [], _∷_, _++_}
+use Prim.Native.Nat.{ℕ, suc, _-_, _≤_, _<_}
 use native.Mathlib.Omega.{arith}
-use lib.Dec.{eqb}
+use lib.Dec.{eqb, leb}
 use lib.ListN.{length}
 use lib.Seq.{slice}
-use borrow.Author.Tests.{le-leb, eqb-true, eqb-false, eq-eqb, ne-eqb}
+use borrow.Author.Tests.{leb-true, eqb-true, eqb-false, eq-eqb, ne-eqb}
+use mathlib.Mathlib.Data.Bool.Basic.{and-elim-left as and-left, and-elim-right as and-right, and-intro as both}
 use Rattle.frame.specs.declared.Command.the-variants as K
 use Rattle.frame.specs.declared.Fields.{Fields}
 use Rattle.frame.specs.declared.Reading.the-variants.{Frame}
@@ -23,21 +24,22 @@ use Rattle.steps.specs.Frames as W
 use Rattle.steps.specs.Calls.{Outcome, isFailSafe, shownOf, shownAge}
 use Rattle.steps.specs.Steps as S
 use Rattle.steps.proofs.CallLaws.{step-laws}
-use Rattle.steps.proofs.Keeps.{bcase}
+use Rattle.steps.proofs.Keeps.{bcase, Kept}
 use Rattle.records.specs.Records.{recordOf}
 use Rattle.gateway.specs.Tables.{Lent, endpointAt, placeOf, isReading, clockStep, afterClock}
 use Rattle.gateway.specs.Calls.{Entry, Result, result, actedOf, shownIn, ticksIn}
 use Rattle.link.specs.Runs as L
 use Rattle.runs.specs.Steps.{Call, act, send, deliver, show, callIn}
-use Rattle.runs.specs.Bus.{onBus, isOf, isRefreshIn, isFrameOf, isRefreshOf}
-use Rattle.runs.proofs.Tables.{Whole, Like, like-at, like-whole, like-tick, ticked-at, placed-there, place-like}
-use Rattle.runs.proofs.Tables.{place-has}
+use Rattle.runs.specs.Bus.{onBus, isOf, sessionOf, isRefreshIn, isFrameOf, isRefreshOf}
+use Rattle.runs.proofs.Tables.{Whole, Like, like-at, like-whole, tick-keeps, like-tick, ticked-at, placed-there}
+use Rattle.runs.proofs.Tables.{place-like, place-has}
 use Rattle.runs.proofs.Loaded.{Table}
 use Rattle.runs.proofs.Idle.{call-expired, call-timely, tick-expired, tick-timely}
 use Rattle.runs.proofs.Reaching as A
 use Rattle.runs.proofs.Reaching.{and-false}
-use Rattle.age.specs.Runs.{lentTo, logged, lastOf, mayDeliver, tookBy, showsValue, shownBy}
-use Rattle.age.proofs.Logs.{toLog, AllGood, no-more, last-of, WritingOf, writing-of}
+use Rattle.age.specs.Runs.{sentAt, lentTo, logged, lastOf, travels, mayDeliver, givenAfter, tookBy, showsValue}
+use Rattle.age.specs.Runs.{settingsFor, shownBy}
+use Rattle.age.proofs.Logs.{toLog, loads-at, AllGood, no-more, last-of, WritingOf, writing-of}
 use Rattle.age.proofs.OneCall.{empty, not-logged, other-frame, own-log, own-good, Matches, not-shown, idle}
 use Rattle.age.proofs.OneCall.{clocked, only-clock}
 
@@ -48,18 +50,18 @@ no-refresh cid [] z = refl
 no-refresh cid (b ∷ s) z = let q : suc (length s) ≡ 0 = eqb-true (suc (length s)) 0 z in absurd (omega arith)
 
 -- a show changes the endpoint by the clock step only, and puts nothing on the bus
-show-call : (slave : Bool) (m : ℕ) (e : Endpoint) (t : ℕ)
+show-call : (slave : Bool) (m loads : ℕ) (e : Endpoint) (t : ℕ)
     → (S.callOf e t S.show .endpoint ≡ afterTick e t)
-    × (L.logged slave m S.show (S.callOf e t S.show .writes) ≡ [])
-show-call slave m e t =
+    × (L.logged slave m loads S.show (S.callOf e t S.show .writes) ≡ [])
+show-call slave m loads e t =
     bcase (isExpired e t)
     (λ x. (
       ap (λ (o : Outcome). o .endpoint) (call-expired e t S.show x) ∙ sym (tick-expired e t x),
-      ap (λ (o : Outcome). L.logged slave m S.show (o .writes)) (call-expired e t S.show x),
+      ap (λ (o : Outcome). L.logged slave m loads S.show (o .writes)) (call-expired e t S.show x),
     ))
     (λ x. (
       ap (λ (o : Outcome). o .endpoint) (call-timely e t S.show x) ∙ sym (tick-timely e t x),
-      ap (λ (o : Outcome). L.logged slave m S.show (o .writes)) (call-timely e t S.show x),
+      ap (λ (o : Outcome). L.logged slave m loads S.show (o .writes)) (call-timely e t S.show x),
     ))
 
 -- a value is shown with its age
@@ -68,11 +70,12 @@ flip : (b : Bool) (x : ℕ → L.Show) (age : ℕ)
 flip true x age = refl
 flip false x age = refl
 
-module _ (cid : ℕ) (slave : Bool) (m : ℕ) (d₀ : Lent) (n : ℕ) (T : Table d₀ cid n) (d : Lent) (same : Like d d₀)
-    (t room : ℕ) (reading : isReading (d .gateway) t ≡ true) (log : List L.Sent) (good : AllGood cid log) (took : ℕ)
+module _ (cid : ℕ) (slave : Bool) (m loads : ℕ) (given : List L.Grant) (number : ℕ) (d₀ : Lent) (n : ℕ)
+    (T : Table number d₀ cid n) (d : Lent) (same : Like d d₀) (t room : ℕ) (reading : isReading (d .gateway) t ≡ true)
+    (log : List L.Sent) (good : AllGood cid log) (took : ℕ)
   where
     abbrev Match : Call → Type 0
-    Match c = Matches cid slave m d n t room log took c
+    Match c = Matches cid slave m loads given d n t room log took c
 
     -- the CID's entry, and its CID
     the-entry : placeOf cid d ≡ n
@@ -106,14 +109,28 @@ module _ (cid : ℕ) (slave : Bool) (m : ℕ) (d₀ : Lent) (n : ℕ) (T : Table
     took-none (deliver s) = refl
     took-none (show k) = refl
 
+    -- a number is given by a done restart of the entry only
+    gives-none : (a : S.Act) (k : ℕ) (done : Bool) → (eqb (placeOf cid d) k && done) ≡ false
+        → givenAfter cid slave d loads (act a k) done given ≡ given
+    gives-none a k done h =
+        ap (λ (b : Bool). cond (slave && b) (L.givenBy loads a) [] ++ given) h
+        ∙ ap (λ (b : Bool). cond b (L.givenBy loads a) [] ++ given) (and-false slave)
+
+    gives-refused : (c : Call) → givenAfter cid slave d loads c false given ≡ given
+    gives-refused (act a k) = gives-none a k false (and-false (eqb (placeOf cid d) k))
+    gives-refused (send k value) = refl
+    gives-refused (deliver s) = refl
+    gives-refused (show k) = refl
+
     nowhere : {c : Call} (a : Answer) (x : Entry) → A.Still c a
         → callIn d t room c ≡ result a x W.nothing (afterClock t d) → Match c
     nowhere {c = c} a x s q =
-        only-clock cid slave m d n t room log took c whole counted
+        only-clock cid slave m loads given d n t room log took c whole counted
         (ap (λ (r : Result). r .lent) q ∙ clocked d t reading whole)
         (ap (λ (r : Result). isFrameOf cid (onBus (r .writes))) q ∙ empty cid)
         (ap (showsValue cid d c) q ∙ silent s)
         (ap (λ (r : Result). tookBy cid (toLog log) c (isDone (r .answer)) took) q ∙ none s)
+        (ap (λ (r : Result). givenAfter cid slave d loads c (isDone (r .answer)) given) q ∙ gives s)
       where
         silent : {c : Call} → A.Still c a → showsValue cid d c (result a x W.nothing (afterClock t d)) ≡ false
         silent {c = c} (A.refused h) = not-done c _ h
@@ -125,35 +142,49 @@ module _ (cid : ℕ) (slave : Bool) (m : ℕ) (d₀ : Lent) (n : ℕ) (T : Table
             ap (λ (b : Bool). cond (isDone a && b) (lastOf s (toLog log)) took) (no-refresh cid s z)
             ∙ ap (λ (b : Bool). cond b (lastOf s (toLog log)) took) (and-false (isDone a))
 
+        gives : {c : Call} → A.Still c a → givenAfter cid slave d loads c (isDone a) given ≡ given
+        gives {c = c} (A.refused h) =
+            ap (λ (b : Bool). givenAfter cid slave d loads c b given) h ∙ gives-refused c
+        gives (A.empty z) = refl
+
     -- ---- a show
     shows-other : (k : ℕ) → callIn d t room (show k) ≡ shownIn (afterTick (endpointAt d k) t) t k d
         → eqb n k ≡ false → Match (show k)
     shows-other k q b =
         let r = callIn d t room (show k) in
-        only-clock cid slave m d n t room log took (show k) whole counted (ap (λ (r : Result). r .lent) q)
+        only-clock cid slave m loads given d n t room log took (show k) whole counted (ap (λ (r : Result). r .lent) q)
         (ap (λ (r : Result). isFrameOf cid (onBus (r .writes))) q ∙ empty cid)
         (ap (λ (i : Bool). i && (isDone (r .answer) && not (r .failsafe))) (ap (λ (i : ℕ). eqb i k) the-entry ∙ b))
-        refl
+        refl refl
+
+    -- the settings that it is shown with
+    its-settings : settingsFor cid d ≡ afterTick (endpointAt d n) t .settings
+    its-settings =
+        ap (λ (i : ℕ). endpointAt d i .settings) the-entry
+        ∙ sym (ap (λ (s : Kept). s .0) (tick-keeps (endpointAt d n) t))
 
     shows-own : callIn d t room (show n) ≡ shownIn (afterTick (endpointAt d n) t) t n d → Match (show n)
     unfolding toLog
     shows-own q =
         let e = endpointAt d n in
         let x = afterTick e t in
-        let y : ℕ → L.Show = λ age. L.shown slave m (shownOf x) age took (length log) in
-        let c = show-call slave m e t in
+        let y : Settings → ℕ → L.Show = λ s age. L.shown slave s m (shownOf x) age took (length log) in
+        let c = show-call slave m loads e t in
         let v : showsValue cid d (show n) (shownIn x t n d) ≡ not (isFailSafe x) =
         ap (λ (b : Bool). b && (true && not (isFailSafe x))) (eq-eqb (placeOf cid d) n the-entry) in
         record {
           by = S.show;
           endpoint = ap (λ (r : Result). endpointAt (r .lent) n) q ∙ ticks ∙ sym (c .0);
-          logs = ap (λ (r : Result). logged cid slave m (show n) (r .writes)) q
-              ∙ not-logged cid slave m (show n) (W.value (shownOf x)) (empty cid) ∙ sym (ap toLog (c .1));
+          logs = ap (λ (r : Result). logged cid slave m loads (show n) (r .writes)) q
+              ∙ not-logged cid slave m loads (show n) (W.value (shownOf x)) (empty cid) ∙ sym (ap toLog (c .1));
           good = subst (AllGood cid) (sym (c .1)) no-more;
           shows = ap (shownBy cid slave d m took (length log) (show n)) q
-              ∙ ap (λ (b : Bool). cond {A = List L.Show} b (y (ticksIn (shownAge x t)) ∷ []) []) v
-              ∙ flip (isFailSafe x) y (heldAge x t) ∙ sym (ap (L.shownBy slave m t took (length log) S.show) (c .0));
+              ∙ ap₂ (λ (b : Bool) (s : Settings). cond {A = List L.Show} b (y s (ticksIn (shownAge x t)) ∷ []) [])
+              v its-settings
+              ∙ flip (isFailSafe x) (y (x .settings)) (heldAge x t)
+              ∙ sym (ap (L.shownBy slave m t took (length log) S.show) (c .0));
           takes = refl;
+          gives = refl;
           may = refl;
           like = subst (λ (r : Result). Like (r .lent) d) (sym q) (like-tick d t);
         }
@@ -180,17 +211,15 @@ module _ (cid : ℕ) (slave : Bool) (m : ℕ) (d₀ : Lent) (n : ℕ) (T : Table
           (refreshes ∙ ap (λ (i : Bool). i && is (f .command) K.Refresh) (ne-eqb (f .connection) cid (no-frame ne)))
           ∙ ap (λ (i : Bool). cond i (lastOf s (toLog log)) took) (and-false b)
 
-      -- of this one it was written
-      module _ (q : k ≡ n) (may : mayDeliver cid (toLog log) (deliver s) ≡ true) where
-        was-written : 1 ≤ lastOf s (toLog log)
-        was-written = place (lastOf s (toLog log)) refl
-          where
-            own : isFrameOf cid s ≡ true
-            own = ap (isOf cid) is-frame ∙ eq-eqb (f .connection) cid (its-frame q)
+      -- of this one it was written, and may still travel
+      module _ (q : k ≡ n) (may : mayDeliver cid given (toLog log) (deliver s) ≡ true) where
+        may-own-frame : (leb 1 (lastOf s (toLog log)) && travels given s (toLog log)) ≡ true
+        may-own-frame =
+            let own : isFrameOf cid s ≡ true = ap (isOf cid) is-frame ∙ eq-eqb (f .connection) cid (its-frame q) in
+            ap (λ (b : Bool). not b || (leb 1 (lastOf s (toLog log)) && travels given s (toLog log))) (sym own) ∙ may
 
-            place : (p : ℕ) → lastOf s (toLog log) ≡ p → 1 ≤ lastOf s (toLog log)
-            place zero z = absurd (false≢true (rw (own, z) at may))
-            place (suc p) z = omega arith
+        was-written : 1 ≤ lastOf s (toLog log)
+        was-written = leb-true 1 (lastOf s (toLog log)) (and-left (leb 1 (lastOf s (toLog log))) _ may-own-frame)
 
         writing : WritingOf s f (slice from to s)
         writing = writing-of cid s log good was-written f from to is-frame
@@ -199,11 +228,17 @@ module _ (cid : ℕ) (slave : Bool) (m : ℕ) (d₀ : Lent) (n : ℕ) (T : Table
         last-place = ap (λ (x : List ℕ). lastOf x (toLog log)) (sym (writing .is))
             ∙ last-of cid f (slice from to s) (writing .readable) log good
 
-        may-too : L.mayDeliver log (S.deliver f (slice from to s)) ≡ true
+        -- after how many loadings: the same, at the same place
+        last-loads : sentAt (toLog log) (lastOf s (toLog log) - 1) .loads
+            ≡ L.sentAt log (L.lastOf f (slice from to s) log - 1) .loads
+        last-loads = loads-at log (lastOf s (toLog log) - 1)
+            ∙ ap (λ (i : ℕ). L.sentAt log (i - 1) .loads) last-place
+
+        may-too : L.mayDeliver given log (S.deliver f (slice from to s)) ≡ true
         may-too =
-            let w = was-written in
-            let p = last-place in
-            le-leb 1 (L.lastOf f (slice from to s) log) (omega arith)
+            both (ap (leb 1) (sym last-place) ∙ and-left (leb 1 (lastOf s (toLog log))) _ may-own-frame)
+            (sym (ap₂ (L.mayTravel given) (ap sessionOf is-frame) last-loads)
+            ∙ and-right (leb 1 (lastOf s (toLog log))) _ may-own-frame)
 
         takes-too : (a : Answer)
             → tookBy cid (toLog log) (deliver s) (isDone a) took ≡ L.tookBy log (S.deliver f (slice from to s)) a took
@@ -236,14 +271,29 @@ module _ (cid : ℕ) (slave : Bool) (m : ℕ) (d₀ : Lent) (n : ℕ) (T : Table
     took-other (A.sends k value) ne b = refl
     took-other (A.delivers s f from to k i h) ne b = takes-none s f from to k i h ne b
 
-    took-own : {c : Call} {by : S.Call} {k : ℕ} → A.For d c by k → k ≡ n → mayDeliver cid (toLog log) c ≡ true
+    took-own : {c : Call} {by : S.Call} {k : ℕ} → A.For d c by k → k ≡ n → mayDeliver cid given (toLog log) c ≡ true
         → (a : Answer) → tookBy cid (toLog log) c (isDone a) took ≡ L.tookBy log by a took
     took-own (A.acts a k) q may b = refl
     took-own (A.sends k value) q may b = refl
     took-own (A.delivers s f from to k i h) q may b = takes-too s f from to k i h q may b
 
-    may-own : {c : Call} {by : S.Call} {k : ℕ} → A.For d c by k → k ≡ n → mayDeliver cid (toLog log) c ≡ true
-        → L.mayDeliver log by ≡ true
+    gives-other : {c : Call} {by : S.Call} {k : ℕ} → A.For d c by k → (k ≡ n → ⊥) → (b : Bool)
+        → givenAfter cid slave d loads c b given ≡ given
+    gives-other (A.acts a k) ne b =
+        gives-none a k b (ap (λ (i : Bool). i && b) (ne-eqb (placeOf cid d) k (λ q. ne (sym q ∙ the-entry))))
+    gives-other (A.sends k value) ne b = refl
+    gives-other (A.delivers s f from to k i h) ne b = refl
+
+    gives-own : {c : Call} {by : S.Call} {k : ℕ} → A.For d c by k → k ≡ n → (a : Answer)
+        → givenAfter cid slave d loads c (isDone a) given ≡ L.givenAfter slave loads by a given
+    gives-own (A.acts a k) q b =
+        ap (λ (i : Bool). cond (slave && (i && isDone b)) (L.givenBy loads a) [] ++ given)
+        (eq-eqb (placeOf cid d) k (the-entry ∙ sym q))
+    gives-own (A.sends k value) q b = refl
+    gives-own (A.delivers s f from to k i h) q b = refl
+
+    may-own : {c : Call} {by : S.Call} {k : ℕ} → A.For d c by k → k ≡ n → mayDeliver cid given (toLog log) c ≡ true
+        → L.mayDeliver given log by ≡ true
     may-own (A.acts a k) q may = refl
     may-own (A.sends k value) q may = refl
     may-own (A.delivers s f from to k i h) q may = may-too s f from to k i h q may
@@ -263,16 +313,17 @@ module _ (cid : ℕ) (slave : Bool) (m : ℕ) (d₀ : Lent) (n : ℕ) (T : Table
       steps-other : (k ≡ n → ⊥) → Match c
       steps-other ne =
           let there : k < d₀ .gateway .count = rw (same .counts) at (live .counted) in
-          idle cid slave m d n t room log took c
+          idle cid slave m loads given d n t room log took c
           (ap (λ (r : Result). endpointAt (r .lent) n) is
           ∙ placed-there (clockStep t d) k n (recordOf (o .endpoint)) (λ q. ne (sym q)) ∙ ticks)
           (ap (λ (r : Result). isFrameOf cid (onBus (r .writes))) is
           ∙ other-frame cid e (o .writes) (step-laws .carries e t by)
           (λ q. T .others k there ne (ap (λ (s : Settings). s .connection) (sym (like-at same k)) ∙ q)))
-          (no-show names (callIn d t room c)) (took-other names ne (isDone (callIn d t room c .answer))) stays
+          (no-show names (callIn d t room c)) (took-other names ne (isDone (callIn d t room c .answer)))
+          (gives-other names ne (isDone (callIn d t room c .answer))) stays
 
       -- of this one
-      steps-own : k ≡ n → mayDeliver cid (toLog log) c ≡ true → Match c
+      steps-own : k ≡ n → mayDeliver cid given (toLog log) c ≡ true → Match c
       steps-own k≡n may =
           let p : S.callOf e t by ≡ o = call-timely e t by (live .timely) in
           let there : endpointAt d n ≡ e = ap (endpointAt d) (sym k≡n) in
@@ -284,22 +335,25 @@ module _ (cid : ℕ) (slave : Bool) (m : ℕ) (d₀ : Lent) (n : ℕ) (T : Table
             endpoint = ap (λ (r : Result). endpointAt (r .lent) n) is
                 ∙ ap (endpointAt (actedOf o t k d .lent)) (sym k≡n)
                 ∙ A.step-at d t by k live ∙ sym (ap (λ (y : Outcome). y .endpoint) does);
-            logs = ap (λ (r : Result). logged cid slave m c (r .writes)) is
-                ∙ own-log cid slave m c by e (o .writes) (step-laws .carries e t by) has (lent names)
-                ∙ sym (ap (λ (y : Outcome). toLog (L.logged slave m by (y .writes))) does);
-            good = subst (λ (y : Outcome). AllGood cid (L.logged slave m by (y .writes))) (sym does)
-                (own-good cid slave m by e (o .writes) (step-laws .carries e t by) has);
-            shows = not-shown cid slave m d n t room log took c (callIn d t room c)
+            logs = ap (λ (r : Result). logged cid slave m loads c (r .writes)) is
+                ∙ own-log cid slave m loads c by e (o .writes) (step-laws .carries e t by) has (lent names)
+                ∙ sym (ap (λ (y : Outcome). toLog (L.logged slave m loads by (y .writes))) does);
+            good = subst (λ (y : Outcome). AllGood cid (L.logged slave m loads by (y .writes))) (sym does)
+                (own-good cid slave m loads by e (o .writes) (step-laws .carries e t by) has);
+            shows = not-shown cid slave m loads given d n t room log took c (callIn d t room c)
                 (no-show names (callIn d t room c)) ∙ sym (no-show-by names _);
             takes = ap (λ (r : Result). tookBy cid (toLog log) c (isDone (r .answer)) took) is
                 ∙ took-own names k≡n may (o .answer)
                 ∙ sym (ap (λ (y : Outcome). L.tookBy log by (y .answer) took) does);
+            gives = ap (λ (r : Result). givenAfter cid slave d loads c (isDone (r .answer)) given) is
+                ∙ gives-own names k≡n (o .answer)
+                ∙ sym (ap (λ (y : Outcome). L.givenAfter slave loads by (y .answer) given) does);
             may = may-own names k≡n may;
             like = stays;
           }
 
     -- ---- every call
-    pub matches : {c : Call} → A.Reach d t room c → mayDeliver cid (toLog log) c ≡ true → Match c
+    pub matches : {c : Call} → A.Reach d t room c → mayDeliver cid given (toLog log) c ≡ true → Match c
     matches (A.nowhere a x s q) may = nowhere a x s q
     matches (A.showing k q) may =
         bcase (eqb n k)

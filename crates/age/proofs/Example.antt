@@ -1,16 +1,20 @@
--- The theorem's premises can be met: two gateways are loaded into slices that were in use, the line starts, its station
--- performs a command, is at first not ready, refreshes both ways, and shows both values. All of it is computed.
+-- The theorem's premises can be met: two gateways are loaded into slices that were in use, and the line starts; the
+-- slave's gateway loses its power and is loaded again, with another session number, list and clock. The line starts
+-- anew while a frame from before still travels; its station performs a command, is at first not ready, refreshes both
+-- ways, and shows both values. All of it is computed.
 use mathlib.Core.Path.{_≡_, refl, ap}
-use mathlib.Core.Bool.{Bool, true, false}
+use mathlib.Core.Bool.{Bool, true, false, cond}
 use mathlib.Core.List.{List, [], _∷_, _++_}
 use Prim.Native.Nat.{ℕ, _+_}
 use lib.ListN.{replicate}
 use Rattle.crc.specs.Crc.{bitStep, bitSteps, byteStep, crcFrom, crc}
 use Rattle.frame.specs.declared.Command.{Command}
 use Rattle.frame.specs.declared.Command.the-variants as K
-use Rattle.frame.specs.Control.{controlOf, hasForm}
+use Rattle.frame.specs.declared.Subconnection.the-variants.{Absent, Number}
+use Rattle.frame.specs.Control.{is, controlOf, hasForm}
 use Rattle.frame.specs.Reading.{hasCheckWord, fieldsIn, readingOfCopies, readingOf}
 use Rattle.frame.specs.Writing.{headBytes, withCheckWord, twice, subBytes, frameBytes, isWritable}
+use Rattle.endpoint.specs.declared.Settings.{Settings}
 use Rattle.transitions.specs.ByCall.{freshOf}
 use Rattle.transitions.specs.ByFrame.{refreshedOf}
 use Rattle.steps.specs.Frames.{sentFields, ackFields, setupData, handedOver}
@@ -18,51 +22,77 @@ use Rattle.settings.specs.Lists.{connectionAt, settingsAt, isConnectionAt, isNe
 use Rattle.records.specs.declared.Record.{Record}
 use Rattle.records.specs.Records.{recordOf}
 use Rattle.gateway.specs.Tables.{endpointAt, placeOf, clockStep}
-use Rattle.steps.specs.Steps.{start, setNotReady, setResult, invoke}
+use Rattle.steps.specs.Steps.{start, stop, restart, setNotReady, setResult, invoke}
 use Rattle.link.specs.Runs as L
-use Rattle.runs.specs.Steps.{Call, act, send, deliver, show, call}
-use Rattle.age.specs.Runs.{Event, lastFrom, lastOf, Run, afterAll}
+use Rattle.runs.specs.Steps.{Call, act, send, deliver, show}
+use Rattle.age.specs.Runs.{Event, called, loaded, sentAt, lastFrom, lastOf, Run, afterAll}
 use Rattle.age.specs.Demand.{Holds, runOf}
 
 list : ℕ → List ℕ
 list role = 0x10000102 ∷ 0x20000103 ∷ role ∷ 0x40000064 ∷ 0x50000032 ∷ 0x60000032 ∷ 0x70000007 ∷ []
 
+-- another connection stands before it
+longer : List ℕ
+longer =
+    (0x10000104 ∷ 0x20000105 ∷ 0x30000021 ∷ 0x40000064 ∷ 0x50000032 ∷ 0x60000032 ∷ 0x70000007 ∷ [])
+    ++ list 0x30000421
+
 at-master : ℕ → Call → Event
-at-master t c = record { slave = false; step = call t 248 c }
+at-master t c = called false t 248 c
 
 at-slave : ℕ → Call → Event
-at-slave t c = record { slave = true; step = call t 248 c }
+at-slave t c = called true t 248 c
 
--- the slave's clock is 5,000 ticks ahead of the master's
+-- the slave's clock is 5,000 ticks ahead of the master's, and 1,000 once it is loaded again
 clocks : L.Clocks
 clocks = record { master = 5000; slave = 0 }
 
 cid : ℕ
 cid = 0x01020103
 
--- lent to both: one record more than the list has connections, and each is of the CID and holds another value
+-- what the lists say of it
+settings : Bool → Settings
+settings slave = record {
+  connection = cid;
+  slave = slave;
+  masterwords = 1;
+  slavewords = 1;
+  interval = 100;
+  roundtrip = 50;
+  age = 50;
+  station = 7;
+}
+
+-- lent to both: each record is of the CID and holds another value; the lists that are loaded first leave one over
 slice : List Record
 slice = used ∷ used ∷ []
   where
     used : Record
-    used = recordOf (refreshedOf (freshOf (settingsAt (list 0x30000421) 0)) 5 3 (replicate 100 9))
+    used = recordOf (refreshedOf (freshOf (settings true) 9) 5 3 (replicate 100 9))
 
 data-of : Command → List ℕ
-data-of k = setupData (settingsAt (list 0x30000021) 0) k
+data-of k = setupData (settings false) k
 
--- a request written at t, taken by the slave, and its reply, Busy or not, taken by the master one tick later each
-answered : Bool → ℕ → Command → ℕ → List ℕ → List ℕ → List Event
-answered busy t k baseline request reply =
-    at-master t (send 0 [])
-    ∷ at-slave (5001 + t) (deliver (frameBytes (sentFields k false cid t baseline) request))
-    ∷ at-master (2 + t) (deliver (frameBytes (ackFields k busy false cid t) reply)) ∷ []
+-- what a master with the session number n writes; an S-Connect request carries none
+request : ℕ → ℕ → Command → ℕ → List ℕ → List ℕ
+request n t k baseline body =
+    frameBytes (sentFields k false (cond (is k K.Connect) Absent (Number n)) cid t baseline) body
 
--- a setup request, whose reply repeats its data
-repeated : Bool → ℕ → Command → ℕ → List Event
-repeated busy t k baseline = answered busy t k baseline (data-of k) (data-of k)
+-- with the session number n, and the slave's clock so far ahead
+module _ (n ahead : ℕ) where
+  -- a request written at t, taken by the slave, and its reply, Busy or not, taken by the master one tick later each
+  answered : Bool → ℕ → Command → ℕ → List ℕ → List ℕ → List Event
+  answered busy t k baseline body reply =
+      at-master t (send 0 [])
+      ∷ at-slave (ahead + (1 + t)) (deliver (request n t k baseline body))
+      ∷ at-master (2 + t) (deliver (frameBytes (ackFields k busy false (Number n) cid t) reply)) ∷ []
 
-exchange : ℕ → Command → ℕ → List Event
-exchange t k baseline = repeated false t k baseline
+  -- a setup request, whose reply repeats its data
+  repeated : Bool → ℕ → Command → ℕ → List Event
+  repeated busy t k baseline = answered busy t k baseline (data-of k) (data-of k)
+
+  exchange : ℕ → Command → ℕ → List Event
+  exchange t k baseline = repeated false t k baseline
 
 -- a queued command, first with Busy, since the station has no result yet, and then with its result
 command : List ℕ
@@ -74,59 +104,75 @@ result = 9 ∷ 8 ∷ 7 ∷ 6 ∷ []
 performed : ℕ → List Event
 performed t =
     (at-master t (act (invoke 7 []) 0) ∷ [])
-    ++ (answered true t K.InvokeFunc 0 command command
-    ++ ((at-slave (5002 + t) (act (setResult result) 0) ∷ [])
-    ++ answered false (3 + t) K.InvokeFunc 0 command result))
+    ++ (answered 8 1000 true t K.InvokeFunc 0 command command
+    ++ ((at-slave (1002 + t) (act (setResult result) 1) ∷ [])
+    ++ answered 8 1000 false (3 + t) K.InvokeFunc 0 command result))
+
+-- connected with number 7; then the slave's gateway is loaded with number 8, and its connection is at entry 1
+cycled : List Event
+cycled =
+    (at-master 1 (act start 0) ∷ [])
+    ++ (exchange 7 5000 2 K.Connect 0
+    ++ (at-master 5 (send 0 [])
+    ∷ loaded 8 longer slice 4000
+    ∷ at-master 6 (act stop 0)
+    ∷ at-master 7 (act (restart 0) 0)
+    ∷ at-master 8 (act start 0) ∷ []))
 
 line : List Event
 line =
-    (at-master 9 (act start 0) ∷ [])
-    ++ (exchange 10 K.Connect 0
-    ++ (exchange 20 K.ConfirmNetwork 0
-    ++ (exchange 30 K.VerifyStation 0
+    cycled
+    ++ (exchange 8 1000 10 K.Connect 0
+    -- a request from before, with number 7: refused by 21
+    ++ ((at-slave 1013 (deliver (request 7 5 K.ConfirmNetwork 0 (data-of K.ConfirmNetwork))) ∷ [])
+    ++ (exchange 8 1000 20 K.ConfirmNetwork 0
+    ++ (exchange 8 1000 30 K.VerifyStation 0
     ++ (performed 33
-    ++ ((at-slave 5039 (act (setNotReady true) 0) ∷ [])
-    ++ (repeated true 39 K.RefreshReady 0
-    ++ ((at-slave 5041 (act (setNotReady false) 0) ∷ [])
-    ++ (exchange 42 K.RefreshReady 0
-    ++ (exchange 50 K.RefreshGo 6
+    ++ ((at-slave 1039 (act (setNotReady true) 1) ∷ [])
+    ++ (repeated 8 1000 true 39 K.RefreshReady 0
+    ++ ((at-slave 1041 (act (setNotReady false) 1) ∷ [])
+    ++ (exchange 8 1000 42 K.RefreshReady 0
+    ++ (exchange 8 1000 50 K.RefreshGo 6
     ++ (at-master 60 (send 0 (1 ∷ 2 ∷ 3 ∷ 4 ∷ []))
-    ∷ at-slave 5061 (deliver (frameBytes (sentFields K.Refresh false cid 60 0) (1 ∷ 2 ∷ 3 ∷ 4 ∷ [])))
+    ∷ at-slave 1061 (deliver (request 8 60 K.Refresh 0 (1 ∷ 2 ∷ 3 ∷ 4 ∷ [])))
     -- another entry, bytes that are no frame, and a cycle in which nothing arrived
-    ∷ at-slave 5062 (show 1)
-    ∷ at-slave 5063 (deliver (1 ∷ 2 ∷ 3 ∷ []))
-    ∷ at-slave 5064 (deliver [])
-    ∷ at-slave 5070 (show 0)
-    ∷ at-slave 5071 (send 0 (5 ∷ 6 ∷ 7 ∷ 8 ∷ []))
+    ∷ at-slave 1062 (show 0)
+    ∷ at-slave 1063 (deliver (1 ∷ 2 ∷ 3 ∷ []))
+    ∷ at-slave 1064 (deliver [])
+    ∷ at-slave 1070 (show 1)
+    ∷ at-slave 1071 (send 1 (5 ∷ 6 ∷ 7 ∷ 8 ∷ []))
     -- a reading before the last: number 1
-    ∷ at-slave 5000 (show 0)
-    ∷ at-master 72 (deliver (frameBytes (sentFields K.Refresh true cid 72 0) (5 ∷ 6 ∷ 7 ∷ 8 ∷ [])))
-    ∷ at-master 80 (show 0) ∷ []))))))))))
+    ∷ at-slave 1000 (show 1)
+    ∷ at-master 72 (deliver (frameBytes (sentFields K.Refresh true (Number 8) cid 72 0) (5 ∷ 6 ∷ 7 ∷ 8 ∷ [])))
+    ∷ at-master 80 (show 0) ∷ [])))))))))))
 
 run : Run
-run = runOf (list 0x30000021) slice (list 0x30000421) slice cid clocks line
+run = runOf 0 (list 0x30000021) slice 7 (list 0x30000421) slice cid clocks line
 
 -- each gateway holds the CID
-master : Holds (list 0x30000021) slice cid false
+master : Holds 0 (list 0x30000021) slice cid false
 unfolding list cid slice connectionAt settingsAt isConnectionAt isNewAt areConnections isList endpointAt placeOf
 master = record { done = refl; there = refl; role = refl }
 
-slave : Holds (list 0x30000421) slice cid true
+slave : Holds 7 (list 0x30000421) slice cid true
 unfolding list cid slice connectionAt settingsAt isConnectionAt isNewAt areConnections isList endpointAt placeOf
 slave = record { done = refl; there = refl; role = refl }
 
 values : List L.Show
-values = L.shown true 5070 (1 ∷ 2 ∷ 3 ∷ 4 ∷ []) 11 17 17 ∷ L.shown false 5080 (5 ∷ 6 ∷ 7 ∷ 8 ∷ []) 8 18 18 ∷ []
+values =
+    L.shown true (settings true) 5070 (1 ∷ 2 ∷ 3 ∷ 4 ∷ []) 11 21 21
+    ∷ L.shown false (settings false) 5080 (5 ∷ 6 ∷ 7 ∷ 8 ∷ []) 8 22 22 ∷ []
 
 -- both facts at once, so that the run is computed once
 abbrev told : Run → Bool × List L.Show
 told r = (r .allowed, r .shows)
 
 computed : told run ≡ (true, values)
-unfolding run line performed command result exchange repeated answered data-of clocks at-master at-slave list cid slice
-    values afterAll lastFrom lastOf endpointAt placeOf clockStep connectionAt settingsAt isConnectionAt isNewAt
-    areConnections isList setupData handedOver controlOf hasForm hasCheckWord fieldsIn readingOfCopies readingOf
-    headBytes withCheckWord twice subBytes frameBytes isWritable bitStep bitSteps byteStep crcFrom crc
+unfolding run line cycled performed command result exchange repeated answered request data-of clocks at-master at-slave
+    longer list cid settings slice values afterAll sentAt lastFrom lastOf L.mayTravel endpointAt placeOf clockStep
+    connectionAt settingsAt isConnectionAt isNewAt areConnections isList setupData handedOver controlOf hasForm
+    hasCheckWord fieldsIn readingOfCopies readingOf headBytes withCheckWord twice subBytes frameBytes isWritable
+    bitStep bitSteps byteStep crcFrom crc
 computed = refl
 
 allowed : run .allowed ≡ true

@@ -1,278 +1,362 @@
--- Demand 3: every list of calls on two gateways has a list of calls on the two endpoints of the CID that writes, takes
--- and shows the same, so the theorem on endpoints gives the one on gateways.
+-- Demand 3: every list on two gateways has a list on the two endpoints of the CID that writes, takes, gives and shows
+-- the same, so the theorem on endpoints gives the one on gateways.
 use mathlib.Core.Path.{_≡_, refl, sym, ap, ap₂, subst, _∙_}
-use mathlib.Core.Bool.{Bool, true, false, _&&_, _||_, not, cond, false≢true}
+use mathlib.Core.Bool.{Bool, true, false, not, cond, Bool·beq}
 use mathlib.Core.List.{List, [], _∷_, _++_}
-use Prim.Native.Nat.{ℕ, suc, _+_, _-_, _≤_, _<_}
+use Prim.Native.Nat.{ℕ, suc, _-_, _≤_, _<_}
 use native.Mathlib.Omega.{arith}
-use lib.Dec.{eqb, leb}
-use borrow.Author.Tests.{eq-eqb}
+use lib.Dec.{leb}
+use borrow.Author.Tests.{le-leb, eq-eqb}
 use lib.ListN.{length}
 use mathlib.Mathlib.Data.Bool.Basic.{and-elim-left as and-left, and-elim-right as and-right, and-intro as both}
 use Rattle.endpoint.specs.declared.Settings.{Settings}
 use Rattle.endpoint.specs.Endpoint.{Endpoint}
 use Rattle.endpoint.specs.Answers.{isDone}
-use Rattle.endpoint.specs.Time.{lastReading, boundOf}
+use Rattle.endpoint.specs.Time.{lastReading}
+use Rattle.transitions.specs.ByCall.{freshOf}
+use Rattle.steps.specs.Calls.{Outcome}
 use Rattle.steps.specs.Steps as S
 use Rattle.steps.proofs.Dispatch.{cond-true, cond-false}
+use Rattle.steps.proofs.Firsts.{is-done}
 use Rattle.steps.proofs.Keeps.{bcase}
 use Rattle.records.specs.declared.Record.{Record}
 use Rattle.gateway.specs.declared.Gateway.{Gateway}
-use Rattle.gateway.specs.Tables.{Lent, endpointAt, placeOf, isReading}
+use Rattle.gateway.specs.Tables.{Lent, endpointAt, isEntry, placeOf, isReading}
 use Rattle.gateway.specs.Calls.{Result}
 use Rattle.gateway.specs.Loading.{loadedOf}
 use Rattle.link.specs.Runs as L
 use Rattle.link.specs.Fresh as F
 use Rattle.link.proofs.AgeProof.{age-theorem}
-use Rattle.runs.specs.Steps.{Call, Step, load, call, callIn}
+use Rattle.runs.specs.Steps.{Call, callIn}
 use Rattle.runs.proofs.Tables.{Like, like-trans}
 use Rattle.runs.proofs.Loaded.{Table, loaded-table}
 use Rattle.runs.proofs.Reaching.{reach}
-use Rattle.age.specs.Runs.{Event, Sent, sentAt, logged, mayDeliver, neverFalls, tookBy, shownBy, Run, lentAt}
-use Rattle.age.specs.Runs.{isAccepted, afterCall, afterStep, afterAll, begun}
+use Rattle.age.specs.Runs.{Event, called, loaded, Sent, sentAt, Run, begun, lentAt, lentAfter, isAccepted}
+use Rattle.age.specs.Runs.{neverFalls, mayDeliver, tookBy, tookAt, tookAfter, settingsFor, shownBy, afterCall}
+use Rattle.age.specs.Runs.{holdsSlave, afterLoad, afterEvent, afterAll}
 use Rattle.age.specs.Demand.{Holds, settingsIn, ItsSend, Fresh, runOf, Demand, Silence}
 use Rattle.age.proofs.Logs.{refresh-of, toSent, toLog, toLog-append, toLog-length, sent-at, AllGood, no-more}
 use Rattle.age.proofs.Logs.{good-append, good-at}
+use Rattle.age.proofs.OneCall.{Matches}
 use Rattle.age.proofs.EachCall.{matches}
 
 reading-limit : (g : Gateway) (t : ℕ) → isReading g t ≡ true → leb t lastReading ≡ true
 reading-limit g t h = and-right (leb (g .last) t) (leb t lastReading) h
 
--- ---- one end of a run beside the endpoint of the CID
-record Side (d₀ : Lent) (n : ℕ) (d : Lent) (e : Endpoint) (took took′ : ℕ) : Type 0 where
-  like : Like d d₀
-  here : endpointAt d n ≡ e
-  took-same : took ≡ took′
+-- what holds at both ends; and after a call at one, by whether an end is that one
+on-both : (P : Bool → Type 0) → P false → P true → (end : Bool) → P end
+on-both P a b false = a
+on-both P a b true = b
 
--- a call at that end, and the one that does the same to the endpoint
-record Both (cid : ℕ) (slave : Bool) (m : ℕ) (d₀ : Lent) (n : ℕ) (d : Lent) (t room : ℕ) (c : Call)
-    (sent : List Sent) (log : List L.Sent)
-    (e : Endpoint) (took took′ : ℕ) : Type 0 where
-  by : S.Call
-  side : Side d₀ n (callIn d t room c .lent) (S.callOf e t by .endpoint)
-      (tookBy cid sent c (isDone (callIn d t room c .answer)) took)
-      (L.tookBy log by (S.callOf e t by .answer) took′)
-  logs : logged cid slave m c (callIn d t room c .writes) ≡ toLog
-      (L.logged slave m by (S.callOf e t by .writes))
-  good : AllGood cid (L.logged slave m by (S.callOf e t by .writes))
-  shows : shownBy cid slave d m took (length sent) c (callIn d t room c)
-      ≡ L.shownBy slave m t took′ (length log) by (S.callOf e t by .endpoint)
-  may : L.mayDeliver log by ≡ true
+by-end : (P : Bool → Bool → Type 0) (slave : Bool) → P slave true → ((end : Bool) → P end false)
+    → (end : Bool) → P end (Bool·beq end slave)
+by-end P true own other true = own
+by-end P true own other false = other false
+by-end P false own other true = other true
+by-end P false own other false = own
 
-one-step : (cid : ℕ) (slave : Bool) (m : ℕ) (d₀ : Lent) (n : ℕ) → Table d₀ cid n
-    → (d : Lent) (t room : ℕ) (c : Call) (sent : List Sent)
-    (log : List L.Sent) (e : Endpoint) (took took′ : ℕ)
-    → Side d₀ n d e took took′ → sent ≡ toLog log → AllGood cid log
-    → isReading (d .gateway) t ≡ true → mayDeliver cid sent c ≡ true
-    → Both cid slave m d₀ n d t room c sent log e took took′
-one-step cid slave m d₀ n T d t room c sent log e took took′ S q good reading may =
-    subst (λ (x : ℕ). Both cid slave m d₀ n d t room c sent log e took x) (S .took-same)
-    (subst (λ (x : Endpoint). Both cid slave m d₀ n d t room c sent log x took took) (S .here)
-    (subst (λ (x : List Sent). Both cid slave m d₀ n d t room c x log (endpointAt d n) took took)
-    (sym q)
-    (let M = matches cid slave m d₀ n T d (S .like) t room reading log good took (reach d t room c)
-    (ap (λ (x : List Sent). mayDeliver cid x c) (sym q) ∙ may) in
-    record {
-      by = M .by;
-      side = record { like = like-trans (M .like) (S .like); here = M .endpoint; took-same = M .takes };
-      logs = M .logs;
-      good = M .good;
-      shows = ap (λ (i : ℕ). shownBy cid slave d m took i c (callIn d t room c)) (toLog-length log) ∙ M .shows;
-      may = M .may;
-    })))
+-- ---- the run of the two endpoints of a CID, at their places, with the log as fields and bodies
+abbrev linkOf : Run → (Bool → ℕ) → List L.Sent → L.Link
+linkOf l place log = record {
+  master = endpointAt (l .master) (place false);
+  slave = endpointAt (l .slave) (place true);
+  clocks = l .clocks;
+  loads = l .loads;
+  given = l .given;
+  log = log;
+  shows = l .shows;
+  masterTook = l .masterTook;
+  slaveTook = l .slaveTook;
+  latest = l .latest;
+  allowed = l .allowed;
+}
 
-module _ (wm ws : List ℕ) (rm rs : List Record) (cid : ℕ) (hm : Holds wm rm cid false) (hs : Holds ws rs cid true)
-    (clocks : L.Clocks) where
-  -- each end just loaded, and the place of the CID there
-  abbrev dm : Lent
-  dm = loadedOf wm rm .lent
+-- the endpoint at an end
+end-of : (l : Run) (place : Bool → ℕ) (log : List L.Sent) (end : Bool)
+    → L.endpointAt (linkOf l place log) end ≡ endpointAt (lentAt l end) (place end)
+end-of l place log true = refl
+end-of l place log false = refl
 
-  abbrev ds : Lent
-  ds = loadedOf ws rs .lent
+module _ (cid : ℕ) where
+  -- one end's gateway, beside what it was when last loaded
+  record Side (place : ℕ) (d : Lent) : Type 0 where
+    number : ℕ
+    first : Lent
+    table : Table number first cid place
+    like : Like d first
 
-  abbrev nm : ℕ
-  nm = placeOf cid dm
-
-  abbrev ns : ℕ
-  ns = placeOf cid ds
-
-  tm : Table dm cid nm
-  tm = loaded-table wm rm cid (hm .done) (hm .there)
-
-  ts : Table ds cid ns
-  ts = loaded-table ws rs cid (hs .done) (hs .there)
-
+  -- a run of gateways, and one of endpoints that goes along
   record Sim (l : Run) (x : L.Link) : Type 0 where
-    sideM : Side dm nm (l .master) (x .master) (l .masterTook) (x .masterTook)
-    sideS : Side ds ns (l .slave) (x .slave) (l .slaveTook) (x .slaveTook)
-    log : l .log ≡ toLog (x .log)
-    good : AllGood cid (x .log)
-    shows : l .shows ≡ x .shows
-    latest : l .latest ≡ x .latest
-    allowed : x .allowed ≡ true
+    place : Bool → ℕ
+    log : List L.Sent
+    sides : (end : Bool) → Side (place end) (lentAt l end)
+    logs : l .log ≡ toLog log
+    good : AllGood cid log
+    is : x ≡ linkOf l place log
 
-  -- what the list's premise says of one call
+  record Next (l : Run) (x : L.Link) : Type 0 where
+    event : L.Event
+    sim : Sim l (L.afterEvent x event)
+
+  -- ---- a gateway just loaded
+  module _ {number : ℕ} {ws : List ℕ} {rs : List Record} {slave : Bool} (h : Holds number ws rs cid slave) where
+    abbrev d : Lent
+    d = loadedOf number ws rs .lent
+
+    table-of : Table number d cid (placeOf cid d)
+    table-of = loaded-table number ws rs cid (h .done) (h .there)
+
+    side-of : Side (placeOf cid d) d
+    side-of = record {
+      number = number;
+      first = d;
+      table = table-of;
+      like = record { counts = refl; settings = refl };
+    }
+
+  -- ---- a call that is not given 1
+  -- what the list's premise says of it
   record Kept (l : Run) (slave : Bool) (t : ℕ) (c : Call) : Type 0 where
     before : l .allowed ≡ true
-    may : mayDeliver cid (l .log) c ≡ true
-    later : neverFalls l (L.momentOf clocks slave t) ≡ true
+    may : mayDeliver cid (l .given) (l .log) c ≡ true
+    later : neverFalls l (L.momentOf (l .clocks) slave t) ≡ true
 
-  kept : (l : Run) (slave : Bool) (t : ℕ) (c : Call) (r : Result) → afterCall cid clocks l slave t c r .allowed ≡ true
+  kept : (l : Run) (slave : Bool) (t : ℕ) (c : Call) (r : Result) → afterCall cid l slave t c r .allowed ≡ true
       → Kept l slave t c
   kept l slave t c r h =
       let a = and-right (l .allowed) _ h in
       record {
         before = and-left (l .allowed) _ h;
-        may = and-left (mayDeliver cid (l .log) c) _ a;
-        later = and-right (mayDeliver cid (l .log) c) _ a;
+        may = and-left (mayDeliver cid (l .given) (l .log) c) _ a;
+        later = and-right (mayDeliver cid (l .given) (l .log) c) _ a;
       }
 
-  still-allowed : (l : Run) (x : L.Link) (slave : Bool) (t : ℕ) (c : Call) (by : S.Call) → Sim l x → Kept l slave t c
-      → L.mayDeliver (x .log) by ≡ true → leb t lastReading ≡ true
-      → (x .allowed &&
-      (L.mayDeliver (x .log) by && (leb (x .latest) (L.momentOf clocks slave t) && leb t lastReading)))
-      ≡ true
-  still-allowed l x slave t c by S kv h lim =
-      both (S .allowed)
-      (both h (both (ap (λ (i : ℕ). leb i (L.momentOf clocks slave t)) (sym (S .latest)) ∙ kv .later) lim))
+  abbrev after : Run → Bool → ℕ → ℕ → Call → Run
+  after l slave t room c = afterCall cid l slave t c (callIn (lentAt l slave) t room c)
 
-  record Next (l′ : Run) (x : L.Link) : Type 0 where
-    event : L.Event
-    sim : Sim l′ (L.afterEvent clocks x event)
+  module _ (l : Run) (x : L.Link) (sim : Sim l x) (slave : Bool) (t room : ℕ) (c : Call)
+      (reading : isAccepted l slave t ≡ true) (h : after l slave t room c .allowed ≡ true) where
+    abbrev r : Result
+    r = callIn (lentAt l slave) t room c
 
-  abbrev called : Run → Bool → ℕ → ℕ → Call → Run
-  called l slave t room c = afterCall cid clocks l slave t c (callIn (lentAt l slave) t room c)
+    abbrev m : ℕ
+    m = L.momentOf (l .clocks) slave t
 
-  next : (l : Run) (x : L.Link) (slave : Bool) (t room : ℕ) (c : Call) → Sim l x
-      → isAccepted l slave t ≡ true → called l slave t room c .allowed ≡ true → Next (called l slave t room c) x
-  next l x false t room c S reading h =
-      let kv = kept l false t c (callIn (l .master) t room c) h in
-      let B = one-step cid false (L.momentOf clocks false t) dm nm tm (l .master) t room c (l .log) (x .log) (x .master)
-      (l .masterTook) (x .masterTook) (S .sideM) (S .log) (S .good) reading (kv .may) in
-      record {
-        event = record { slave = false; clock = t; call = B .by };
-        sim = record {
-          sideM = B .side;
-          sideS = S .sideS;
-          log = ap₂ _++_ (S .log) (B .logs) ∙ sym (toLog-append (x .log) _);
-          good = good-append cid (S .good) (B .good);
-          shows = ap₂ _++_ (S .shows) (B .shows);
-          latest = refl;
-          allowed = still-allowed l x false t c (B .by) S kv (B .may) (reading-limit (l .master .gateway) t reading);
-        };
-      }
-  next l x true t room c S reading h =
-      let kv = kept l true t c (callIn (l .slave) t room c) h in
-      let B = one-step cid true (L.momentOf clocks true t) ds ns ts (l .slave) t room c (l .log) (x .log) (x .slave)
-      (l .slaveTook) (x .slaveTook) (S .sideS) (S .log) (S .good) reading (kv .may) in
-      record {
-        event = record { slave = true; clock = t; call = B .by };
-        sim = record {
-          sideM = S .sideM;
-          sideS = B .side;
-          log = ap₂ _++_ (S .log) (B .logs) ∙ sym (toLog-append (x .log) _);
-          good = good-append cid (S .good) (B .good);
-          shows = ap₂ _++_ (S .shows) (B .shows);
-          latest = refl;
-          allowed = still-allowed l x true t c (B .by) S kv (B .may) (reading-limit (l .slave .gateway) t reading);
-        };
-      }
+    abbrev place : Bool → ℕ
+    place = sim .place
 
-  sm : Settings
-  sm = settingsIn hm
+    abbrev x₀ : L.Link
+    x₀ = linkOf l place (sim .log)
 
-  ss : Settings
-  ss = settingsIn hs
+    premise : Kept l slave t c
+    premise = kept l slave t c r h
 
-  -- ---- a list of calls on the two endpoints that goes along
-  record Lifted (l : Run) : Type 0 where
+    match : Matches cid slave m (l .loads) (l .given) (lentAt l slave) (place slave) t room (sim .log)
+        (tookAt l slave) c
+    match =
+        let side = sim .sides slave in
+        matches cid slave m (l .loads) (l .given) (side .number) (side .first) (place slave) (side .table)
+        (lentAt l slave) (side .like) t room reading (sim .log) (sim .good) (tookAt l slave)
+        (reach (lentAt l slave) t room c)
+        (ap (λ (z : List Sent). mayDeliver cid (l .given) z c) (sym (sim .logs)) ∙ premise .may)
+
+    abbrev by : S.Call
+    by = match .by
+
+    abbrev o : Outcome
+    o = S.callOf (endpointAt (lentAt l slave) (place slave)) t by
+
+    abbrev more : List L.Sent
+    more = L.logged slave m (l .loads) by (o .writes)
+
+    -- what each end has afterwards: its gateway, its endpoint, and what it took
+    sides-after : (end : Bool) → Side (place end) (lentAfter end l slave r)
+    sides-after =
+        let side = sim .sides slave in
+        by-end (λ end own. Side (place end) (cond own (r .lent) (lentAt l end))) slave
+        (record {
+          number = side .number;
+          first = side .first;
+          table = side .table;
+          like = like-trans (match .like) (side .like);
+        }) (sim .sides)
+
+    endpoints : (end : Bool) → L.endpointAfter end x₀ slave o ≡ endpointAt (lentAfter end l slave r) (place end)
+    endpoints end =
+        ap (λ (e : Endpoint). cond (Bool·beq end slave) (o .endpoint) e) (end-of l place (sim .log) end)
+        ∙ by-end (λ end own. cond own (o .endpoint) (endpointAt (lentAt l end) (place end))
+        ≡ endpointAt (cond own (r .lent) (lentAt l end)) (place end)) slave (sym (match .endpoint)) (λ end. refl) end
+
+    tooks : (end : Bool) → L.tookAfter end x₀ slave by o ≡ tookAfter end cid l slave c r
+    tooks =
+        by-end (λ end own. cond own (L.tookBy (sim .log) by (o .answer) (tookAt l end)) (tookAt l end)
+        ≡ cond own (tookBy cid (l .log) c (isDone (r .answer)) (tookAt l end)) (tookAt l end)) slave
+        (sym (ap (λ (z : List Sent). tookBy cid z c (isDone (r .answer)) (tookAt l slave)) (sim .logs)
+        ∙ match .takes)) (λ end. refl)
+
+    shows : L.shownBy slave m t (tookAt l slave) (length (sim .log)) by (o .endpoint)
+        ≡ shownBy cid slave (lentAt l slave) m (tookAt l slave) (length (l .log)) c r
+    shows =
+        sym (ap (λ (n : ℕ). shownBy cid slave (lentAt l slave) m (tookAt l slave) n c r)
+        (ap length (sim .logs) ∙ toLog-length (sim .log)) ∙ match .shows)
+
+    still : L.afterCall x₀ slave t by o .allowed ≡ true
+    still =
+        both (premise .before)
+        (both (match .may) (both (premise .later) (reading-limit (lentAt l slave .gateway) t reading)))
+
+    link-after : L.afterCall x₀ slave t by o ≡ linkOf (after l slave t room c) place (sim .log ++ more)
+    link-after = λ i. record {
+      master = endpoints false i;
+      slave = endpoints true i;
+      clocks = l .clocks;
+      loads = l .loads;
+      given = sym (match .gives) i;
+      log = sim .log ++ more;
+      shows = l .shows ++ shows i;
+      masterTook = tooks false i;
+      slaveTook = tooks true i;
+      latest = m;
+      allowed = (still ∙ sym h) i;
+    }
+
+    next : Next (after l slave t room c) x
+    next = record {
+      event = L.called slave t by;
+      sim = record {
+        place = place;
+        log = sim .log ++ more;
+        sides = on-both (λ end. Side (place end) (lentAt (after l slave t room c) end)) (sides-after false)
+            (sides-after true);
+        logs = ap₂ _++_ (sim .logs) (match .logs) ∙ sym (toLog-append (sim .log) more);
+        good = good-append cid (sim .good) (match .good);
+        is = ap (λ (y : L.Link). L.afterEvent y (L.called slave t by)) (sim .is)
+            ∙ ap (λ (e : Endpoint). L.afterCall x₀ slave t by (S.callOf e t by)) (end-of l place (sim .log) slave)
+            ∙ link-after;
+      };
+    }
+
+  -- ---- a loading of the slave's gateway
+  module _ (number : ℕ) (ws : List ℕ) (rs : List Record) (h : holdsSlave cid (loadedOf number ws rs) ≡ true) where
+    abbrev dl : Lent
+    dl = loadedOf number ws rs .lent
+
+    holds-slave : Holds number ws rs cid true
+    holds-slave =
+        let a = and-right (isDone (loadedOf number ws rs .answer)) _ h in
+        record {
+          done = is-done (loadedOf number ws rs .answer) (and-left (isDone (loadedOf number ws rs .answer)) _ h);
+          there = and-left (isEntry dl (placeOf cid dl)) _ a;
+          role = and-right (isEntry dl (placeOf cid dl)) _ a;
+        }
+
+    is-slaves : L.isSlaves (settingsFor cid dl) ≡ true
+    is-slaves =
+        let t = table-of holds-slave .ticks in
+        both (holds-slave .role)
+        (both (le-leb _ 65535 (t .interval)) (both (le-leb _ 65535 (t .roundtrip)) (le-leb _ 65535 (t .age))))
+
+    loads : (l : Run) (x : L.Link) (constant : ℕ) → Sim l x → l .allowed ≡ true
+        → Next (afterLoad cid l number (loadedOf number ws rs) constant) x
+    loads l x constant sim before =
+        let to = afterLoad cid l number (loadedOf number ws rs) constant in
+        let place : Bool → ℕ = λ end. cond end (placeOf cid dl) (sim .place false) in
+        let link : L.afterLoad (linkOf l (sim .place) (sim .log)) (settingsFor cid dl) number constant
+        ≡ linkOf to place (sim .log) = λ i. record {
+          master = endpointAt (l .master) (sim .place false);
+          slave = sym (table-of holds-slave .fresh) i;
+          clocks = to .clocks;
+          loads = to .loads;
+          given = to .given;
+          log = sim .log;
+          shows = l .shows;
+          masterTook = l .masterTook;
+          slaveTook = l .slaveTook;
+          latest = l .latest;
+          allowed = (both before is-slaves ∙ sym (both before h)) i;
+        } in
+        record {
+          event = L.loaded (settingsFor cid dl) number constant;
+          sim = record {
+            place = place;
+            log = sim .log;
+            sides = on-both (λ end. Side (place end) (lentAt to end)) (sim .sides false) (side-of holds-slave);
+            logs = sim .logs;
+            good = sim .good;
+            is = ap (λ (y : L.Link). L.afterEvent y (L.loaded (settingsFor cid dl) number constant)) (sim .is) ∙ link;
+          };
+        }
+
+  -- ---- a list on the two endpoints that goes along
+  record Lifted (x : L.Link) (l : Run) : Type 0 where
     events : List L.Event
-    sim : Sim l (L.afterAll clocks (L.begun sm ss) events)
+    sim : Sim l (L.afterAll x events)
 
   one-more : (x : L.Link) (vs : List L.Event) (v : L.Event)
-      → L.afterAll clocks x (vs ++ (v ∷ [])) ≡ L.afterEvent clocks (L.afterAll clocks x vs) v
+      → L.afterAll x (vs ++ (v ∷ [])) ≡ L.afterEvent (L.afterAll x vs) v
   one-more x [] v = refl
-  one-more x (u ∷ vs) v = one-more (L.afterEvent clocks x u) vs v
+  one-more x (u ∷ vs) v = one-more (L.afterEvent x u) vs v
 
   -- a call that is not given 1, and one that is: it changes nothing
   counts : (l : Run) (slave : Bool) (t room : ℕ) (c : Call) → isAccepted l slave t ≡ true
-      → afterStep cid clocks l slave (call t room c) ≡ called l slave t room c
-  counts l slave t room c q = cond-true (isAccepted l slave t) (called l slave t room c) l q
+      → afterEvent cid l (called slave t room c) ≡ after l slave t room c
+  counts l slave t room c q = cond-true (isAccepted l slave t) (after l slave t room c) l q
 
   left-out : (l : Run) (slave : Bool) (t room : ℕ) (c : Call) → isAccepted l slave t ≡ false
-      → afterStep cid clocks l slave (call t room c) ≡ l
-  left-out l slave t room c q = cond-false (isAccepted l slave t) (called l slave t room c) l q
+      → afterEvent cid l (called slave t room c) ≡ l
+  left-out l slave t room c q = cond-false (isAccepted l slave t) (after l slave t room c) l q
 
-  -- a load is not allowed
-  step : (l : Run) (slave : Bool) (s : Step) → Lifted l → afterStep cid clocks l slave s .allowed ≡ true
-      → Lifted (afterStep cid clocks l slave s)
-  step l slave (load list slice) L₀ h = absurd (false≢true h)
-  step l slave (call t room c) L₀ h =
-      bcase (isAccepted l slave t)
-      (λ q.
-      let p = counts l slave t room c q in
-      let N = next l (L.afterAll clocks (L.begun sm ss) (L₀ .events)) slave t room c (L₀ .sim) q
-      (ap (λ (r : Run). r .allowed) (sym p) ∙ h) in
-      subst Lifted (sym p) (record {
-        events = L₀ .events ++ (N .event ∷ []);
-        sim = subst (Sim _) (sym (one-more (L.begun sm ss) (L₀ .events) (N .event))) (N .sim);
-      }))
-      (λ q. subst Lifted (sym (left-out l slave t room c q)) L₀)
+  module _ (x : L.Link) where
+    lengthened : {l l′ : Run} (f : Lifted x l) → Next l′ (L.afterAll x (f .events)) → Lifted x l′
+    lengthened {l} {l′} f n = record {
+      events = f .events ++ (n .event ∷ []);
+      sim = subst (Sim l′) (sym (one-more x (f .events) (n .event))) (n .sim);
+    }
 
-  allowed-first : (l : Run) (slave : Bool) (s : Step) → afterStep cid clocks l slave s .allowed ≡ true
-      → l .allowed ≡ true
-  allowed-first l slave (load list slice) h = absurd (false≢true h)
-  allowed-first l slave (call t room c) h =
-      bcase (isAccepted l slave t)
-      (λ q. kept l slave t c (callIn (lentAt l slave) t room c)
-      (ap (λ (r : Run). r .allowed) (sym (counts l slave t room c q)) ∙ h) .before)
-      (λ q. ap (λ (r : Run). r .allowed) (sym (left-out l slave t room c q)) ∙ h)
+    step : (l : Run) (v : Event) → Lifted x l → afterEvent cid l v .allowed ≡ true → Lifted x (afterEvent cid l v)
+    step l (called slave t room c) f h =
+        bcase (isAccepted l slave t)
+        (λ q.
+        let p = counts l slave t room c q in
+        subst (Lifted x) (sym p) (lengthened f
+        (next l (L.afterAll x (f .events)) (f .sim) slave t room c q (ap (λ (r : Run). r .allowed) (sym p) ∙ h))))
+        (λ q. subst (Lifted x) (sym (left-out l slave t room c q)) f)
+    step l (loaded number ws rs constant) f h =
+        lengthened f (loads number ws rs (and-right (l .allowed) _ h) l (L.afterAll x (f .events)) constant (f .sim)
+        (and-left (l .allowed) _ h))
 
-  allowed-before : (l : Run) (vs : List Event) → afterAll cid clocks l vs .allowed ≡ true → l .allowed ≡ true
-  unfolding afterAll
-  allowed-before l [] h = h
-  allowed-before l (v ∷ vs) h =
-      allowed-first l (v .slave) (v .step) (allowed-before (afterStep cid clocks l (v .slave) (v .step)) vs h)
+    allowed-first : (l : Run) (v : Event) → afterEvent cid l v .allowed ≡ true → l .allowed ≡ true
+    allowed-first l (called slave t room c) h =
+        bcase (isAccepted l slave t)
+        (λ q. kept l slave t c (callIn (lentAt l slave) t room c)
+        (ap (λ (r : Run). r .allowed) (sym (counts l slave t room c q)) ∙ h) .before)
+        (λ q. ap (λ (r : Run). r .allowed) (sym (left-out l slave t room c q)) ∙ h)
+    allowed-first l (loaded number ws rs constant) h = and-left (l .allowed) _ h
 
-  along : (l : Run) (vs : List Event) → Lifted l → afterAll cid clocks l vs .allowed ≡ true
-      → Lifted (afterAll cid clocks l vs)
-  unfolding afterAll
-  along l [] L₀ h = L₀
-  along l (v ∷ vs) L₀ h =
-      let l′ = afterStep cid clocks l (v .slave) (v .step) in
-      along l′ vs (step l (v .slave) (v .step) L₀ (allowed-before l′ vs h)) h
+    allowed-before : (l : Run) (vs : List Event) → afterAll cid l vs .allowed ≡ true → l .allowed ≡ true
+    unfolding afterAll
+    allowed-before l [] h = h
+    allowed-before l (v ∷ vs) h = allowed-first l v (allowed-before (afterEvent cid l v) vs h)
 
-  at-first : Lifted (begun dm ds)
-  unfolding toLog sm ss
-  at-first = record {
-    events = [];
-    sim = record {
-      sideM = record { like = record { counts = refl; settings = refl }; here = tm .fresh; took-same = refl };
-      sideS = record { like = record { counts = refl; settings = refl }; here = ts .fresh; took-same = refl };
-      log = refl;
-      good = no-more;
-      shows = refl;
-      latest = refl;
-      allowed = refl;
-    };
-  }
-
-  paired : F.Paired sm ss
-  unfolding sm ss
-  paired = record { master = hm .role; slave = hs .role; ticksM = tm .ticks; ticksS = ts .ticks }
+    along : (l : Run) (vs : List Event) → Lifted x l → afterAll cid l vs .allowed ≡ true → Lifted x (afterAll cid l vs)
+    unfolding afterAll
+    along l [] f h = f
+    along l (v ∷ vs) f h =
+        let l′ = afterEvent cid l v in along l′ vs (step l v f (allowed-before l′ vs h)) h
 
   -- ---- what holds of the endpoints' list holds of the gateways'
-  module _ (l : Run) (x : L.Link) (S : Sim l x) (A : F.Fresh sm ss x) where
-    longs : length (x .log) ≡ length (l .log)
-    longs = sym (toLog-length (x .log)) ∙ ap length (sym (S .log))
+  module _ (sm ss : Settings) (l : Run) (x : L.Link) (sim : Sim l x)
+      (A : F.Fresh sm ss (linkOf l (sim .place) (sim .log))) where
+    longs : length (sim .log) ≡ length (l .log)
+    longs = sym (toLog-length (sim .log)) ∙ ap length (sym (sim .logs))
 
-    sends : (y : L.Show) (s : Settings) (k : ℕ) → k < length (x .log) → F.ItsSend s y (L.sentAt (x .log) k)
-        → ItsSend cid s y (sentAt (l .log) k)
+    sends : (y : L.Show) (k : ℕ) → k < length (sim .log) → F.ItsSend y (L.sentAt (sim .log) k)
+        → ItsSend cid y (sentAt (l .log) k)
     unfolding toSent
-    sends y s k h w =
-        let g = good-at cid (S .good) k h in
-        let e = L.sentAt (x .log) k in
-        subst (ItsSend cid s y) (sym (ap (λ (z : List Sent). sentAt z k) (S .log) ∙ sent-at (x .log) k h)) (record {
+    sends y k h w =
+        let g = good-at cid (sim .good) k h in
+        let e = L.sentAt (sim .log) k in
+        subst (ItsSend cid y) (sym (ap (λ (z : List Sent). sentAt z k) (sim .logs) ∙ sent-at (sim .log) k h)) (record {
           other = w .other;
           refresh = refresh-of cid (e .fields) (e .body) (g .readable)
               ∙ both (eq-eqb (e .fields .connection) cid (g .has)) (w .refresh);
@@ -282,35 +366,80 @@ module _ (wm ws : List ℕ) (rm rs : List Record) (cid : ℕ) (hm : Holds wm rm 
 
     fresh : Fresh cid sm ss l
     fresh = record {
-      there = λ i. subst
-          (λ (z : List L.Show). i < length z → (1 ≤ L.showAt z i .sent) × (L.showAt z i .sent ≤ L.showAt z i .written)
-          × (L.showAt z i .written ≤ length (l .log))) (sym (S .shows))
-          (λ h. let r = A .there i h in
-          (r .0, r .1, subst (λ (n : ℕ). L.showAt (x .shows) i .written ≤ n) longs (r .2)));
-      its-send = λ i k. subst (λ (z : List L.Show). i < length z → L.showAt z i .sent ≡ suc k
-          → ItsSend cid (cond (L.showAt z i .slave) ss sm) (L.showAt z i) (sentAt (l .log) k))
-          (sym (S .shows))
-          (λ h e. let r = A .there i h in let n : k < length (x .log) = let a = r .1 in let b = r .2 in omega arith in
-          sends (L.showAt (x .shows) i) _ k n (A .its-send i k h e));
-      in-order = λ i j a. subst (λ (z : List L.Show). j < length z → L.showAt z i .slave ≡ L.showAt z j .slave
-          → L.showAt z i .sent ≤ L.showAt z j .sent) (sym (S .shows)) (λ h e. A .in-order i j a h e);
+      there = λ i h. let r = A .there i h in
+          (r .0, r .1, subst (λ (n : ℕ). L.showAt (l .shows) i .written ≤ n) longs (r .2));
+      its-send = λ i k h e. let r = A .there i h in
+          let n : k < length (sim .log) = let a = r .1 in let b = r .2 in omega arith in
+          sends (L.showAt (l .shows) i) k n (A .its-send i k h e);
+      in-order = A .in-order;
+      own = A .own;
     }
 
-  lifted : (vs : List Event) → runOf wm rm ws rs cid clocks vs .allowed ≡ true
-      → Fresh cid sm ss (runOf wm rm ws rs cid clocks vs)
+-- a master looks at no session number
+no-number : (s : Settings) (a b : ℕ) → s .slave ≡ false → freshOf s a ≡ freshOf s b
+no-number s a b h = rw h refl
+
+module _ (nm ns : ℕ) (wm ws : List ℕ) (rm rs : List Record) (cid : ℕ) (hm : Holds nm wm rm cid false)
+    (hs : Holds ns ws rs cid true) (clocks : L.Clocks) where
+  abbrev first : Run
+  first = begun (loadedOf nm wm rm .lent) (loadedOf ns ws rs .lent) ns clocks
+
+  abbrev firstLink : L.Link
+  firstLink = L.begun (settingsIn hm) (settingsIn hs) ns clocks
+
+  at-first : Lifted cid firstLink first
+  unfolding toLog
+  at-first =
+      let place : Bool → ℕ = λ end. placeOf cid (lentAt first end) in
+      record {
+        events = [];
+        sim = record {
+          place = place;
+          log = [];
+          sides = on-both (λ end. Side cid (place end) (lentAt first end)) (side-of cid hm) (side-of cid hs);
+          logs = refl;
+          good = no-more;
+          is = λ i. record {
+            master = (no-number (settingsIn hm) ns nm (hm .role) ∙ sym (table-of cid hm .fresh)) i;
+            slave = sym (table-of cid hs .fresh) i;
+            clocks = clocks;
+            loads = 0;
+            given = L.grant ns 0 ∷ [];
+            log = [];
+            shows = [];
+            masterTook = 0;
+            slaveTook = 0;
+            latest = 0;
+            allowed = true;
+          };
+        };
+      }
+
+  paired : F.Paired (settingsIn hm) (settingsIn hs)
+  paired = record {
+    master = hm .role;
+    slave = hs .role;
+    ticksM = table-of cid hm .ticks;
+    ticksS = table-of cid hs .ticks;
+  }
+
+  lifted : (vs : List Event) → runOf nm wm rm ns ws rs cid clocks vs .allowed ≡ true
+      → Fresh cid (settingsIn hm) (settingsIn hs) (runOf nm wm rm ns ws rs cid clocks vs)
   lifted vs h =
-      let L₁ = along (begun dm ds) vs at-first h in
-      fresh (runOf wm rm ws rs cid clocks vs) (L.afterAll clocks (L.begun sm ss) (L₁ .events)) (L₁ .sim)
-      (age-theorem sm ss clocks (L₁ .events) paired (L₁ .sim .allowed))
+      let f = along cid firstLink first vs at-first h in
+      let x = L.afterAll firstLink (f .events) in
+      fresh cid (settingsIn hm) (settingsIn hs) (runOf nm wm rm ns ws rs cid clocks vs) x (f .sim)
+      (subst (F.Fresh (settingsIn hm) (settingsIn hs)) (f .sim .is)
+      (age-theorem (settingsIn hm) (settingsIn hs) ns clocks (f .events) paired
+      (ap (λ (y : L.Link). y .allowed) (f .sim .is) ∙ h)))
 
 pub demand : Demand
-unfolding sm ss
-demand wm ws rm rs cid hm hs c vs h = lifted wm ws rm rs cid hm hs c vs h
+demand nm ns wm ws rm rs cid hm hs c vs h = lifted nm ns wm ws rm rs cid hm hs c vs h
 
 pub silence : Silence
-silence wm ws rm rs cid hm hs c vs slave last h quiet i k e =
-    let l = runOf wm rm ws rs cid c vs in
-    let A = demand wm ws rm rs cid hm hs c vs h in
+silence nm ns wm ws rm rs cid hm hs c vs slave last h quiet i k e =
+    let l = runOf nm wm rm ns ws rs cid c vs in
+    let A = demand nm ns wm ws rm rs cid hm hs c vs h in
     let y = L.showAt (l .shows) i in
     let r = A .there i k in
     let j : ℕ = y .sent - 1 in
@@ -318,8 +447,5 @@ silence wm ws rm rs cid hm hs c vs slave last h quiet i k e =
     let w = A .its-send i j k q in
     let n : j < length (l .log) = let a = r .1 in let b = r .2 in omega arith in
     let z = quiet j n (w .other ∙ ap not e) (w .refresh) in
-    let b : boundOf (cond (y .slave) (settingsIn hs) (settingsIn hm)) ≡ boundOf
-    (cond slave (settingsIn hs) (settingsIn hm)) =
-    ap (λ (b : Bool). boundOf (cond b (settingsIn hs) (settingsIn hm))) e in
     let v = w .aged .young in
     omega arith

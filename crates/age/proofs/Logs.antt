@@ -36,7 +36,13 @@ refresh-of cid f body w = ap (isRefreshIn cid) (round-trip .there f body w .0)
 
 -- ---- the log
 unfoldable pub toSent : L.Sent → Sent
-toSent w = record { slave = w .slave; moment = w .moment; bytes = frameBytes (w .fields) (w .body); lent = w .lent }
+toSent w = record {
+  slave = w .slave;
+  moment = w .moment;
+  loads = w .loads;
+  bytes = frameBytes (w .fields) (w .body);
+  lent = w .lent;
+}
 
 unfoldable pub toLog : List L.Sent → List Sent
 toLog l = map toSent l
@@ -56,6 +62,13 @@ unfolding toLog sentAt L.sentAt
 sent-at [] i h = absurd (not-suc-le-zero h)
 sent-at (x ∷ l) zero h = refl
 sent-at (x ∷ l) (suc i) h = sent-at l i (le-of-suc-le-suc h)
+
+-- after how many loadings it was written; past the end of the log this is 0 in both
+pub loads-at : (l : List L.Sent) (i : ℕ) → sentAt (toLog l) i .loads ≡ L.sentAt l i .loads
+unfolding toLog toSent sentAt L.sentAt
+loads-at [] i = refl
+loads-at (x ∷ l) zero = refl
+loads-at (x ∷ l) (suc i) = loads-at l i
 
 -- every frame in the log reads back, and is of the CID
 pub record Good (cid : ℕ) (w : L.Sent) : Type 0 where

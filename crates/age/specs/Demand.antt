@@ -1,5 +1,6 @@
 -- Demand 3: for two gateways just loaded that hold one CID, every value shown has its send, in order, and is not too
--- old; and the age that it is shown with is close to the true one (document 02, note 7).
+-- old, also where the slave's is loaded again in mid-list (document 02, note 8); and the age that it is shown with is
+-- close to the true one (note 7).
 use mathlib.Core.Path.{_≡_}
 use mathlib.Core.Bool.{Bool, true, false, not, cond}
 use mathlib.Core.List.{List}
@@ -10,57 +11,59 @@ use Rattle.endpoint.specs.declared.Settings.{Settings}
 use Rattle.endpoint.specs.declared.Answer.the-variants.{Done}
 use Rattle.endpoint.specs.Time.{boundOf}
 use Rattle.records.specs.declared.Record.{Record}
-use Rattle.gateway.specs.Tables.{Lent, endpointAt, isEntry, placeOf}
+use Rattle.gateway.specs.Tables.{isEntry, placeOf}
 use Rattle.gateway.specs.Loading.{loadedOf}
 use Rattle.link.specs.Runs.{Clocks, Show, showAt}
 use Rattle.link.specs.Fresh.{Aged}
 use Rattle.runs.specs.Bus.{isRefreshOf}
-use Rattle.age.specs.Runs.{Event, Sent, sentAt, Run, afterAll, begun}
+use Rattle.age.specs.Runs.{settingsFor, Event, Sent, sentAt, Run, afterAll, begun}
 
--- the settings of the CID's entry
-abbrev pub settingsFor : ℕ → Lent → Settings
-settingsFor cid d = endpointAt d (placeOf cid d) .settings
+-- loaded with answer 0 and a session number into some slice of records, a gateway holds the CID at an entry, as the
+-- slave or as the master
+pub record Holds (number : ℕ) (list : List ℕ) (records : List Record) (cid : ℕ) (slave : Bool) : Type 0 where
+  pub done : loadedOf number list records .answer ≡ Done
+  pub there : isEntry (loadedOf number list records .lent) (placeOf cid (loadedOf number list records .lent)) ≡ true
+  pub role : settingsFor cid (loadedOf number list records .lent) .slave ≡ slave
 
--- loaded with answer 0 into some slice of records, a gateway holds the CID at an entry, as the slave or as the master
-pub record Holds (list : List ℕ) (records : List Record) (cid : ℕ) (slave : Bool) : Type 0 where
-  pub done : loadedOf list records .answer ≡ Done
-  pub there : isEntry (loadedOf list records .lent) (placeOf cid (loadedOf list records .lent)) ≡ true
-  pub role : settingsFor cid (loadedOf list records .lent) .slave ≡ slave
+abbrev pub settingsIn : {number : ℕ} {list : List ℕ} {records : List Record} {cid : ℕ} {slave : Bool}
+    → Holds number list records cid slave → Settings
+settingsIn {number} {list} {records} {cid} h = settingsFor cid (loadedOf number list records .lent)
 
-abbrev pub settingsIn : {list : List ℕ} {records : List Record} {cid : ℕ} {slave : Bool}
-    → Holds list records cid slave → Settings
-settingsIn {list = list} {records = records} {cid = cid} h = settingsFor cid (loadedOf list records .lent)
-
--- the send of a show: by the other end, an S-Refresh of the CID, lent the value shown, and as old as Aged says; s are
--- the settings of the end that shows it
-pub record ItsSend (cid : ℕ) (s : Settings) (x : Show) (w : Sent) : Type 0 where
+-- the send of a show: by the other end, an S-Refresh of the CID, lent the value shown, and as old as Aged says, by the
+-- settings of the end that shows it, as it was last loaded
+pub record ItsSend (cid : ℕ) (x : Show) (w : Sent) : Type 0 where
   pub other : w .slave ≡ not (x .slave)
   pub refresh : isRefreshOf cid (w .bytes) ≡ true
   pub value : w .lent ≡ some (x .bytes)
-  pub aged : Aged s x (w .moment)
+  pub aged : Aged x (w .moment)
 
--- the settings sm and ss are those of the two ends
+-- the settings sm and ss are those of the two ends, as they were first loaded
 pub record Fresh (cid : ℕ) (sm ss : Settings) (l : Run) : Type 0 where
   -- each show's send was written before it: the frame of the S-Refresh that the showing end took last
   pub there : (i : ℕ) → i < length (l .shows)
       → (1 ≤ showAt (l .shows) i .sent) × (showAt (l .shows) i .sent ≤ showAt (l .shows) i .written)
       × (showAt (l .shows) i .written ≤ length (l .log))
   pub its-send : (i k : ℕ) → i < length (l .shows) → showAt (l .shows) i .sent ≡ suc k
-      → ItsSend cid (cond (showAt (l .shows) i .slave) ss sm) (showAt (l .shows) i) (sentAt (l .log) k)
+      → ItsSend cid (showAt (l .shows) i) (sentAt (l .log) k)
   -- a later show at the same end never has an earlier send
   pub in-order : (i j : ℕ) → i < j → j < length (l .shows) → showAt (l .shows) i .slave ≡ showAt (l .shows) j .slave
       → showAt (l .shows) i .sent ≤ showAt (l .shows) j .sent
+  -- the master's settings are those of the first loading, and so are the slave's where it was not loaded again
+  pub own : (i : ℕ) → i < length (l .shows) → (showAt (l .shows) i .slave ≡ true → l .loads ≡ 0)
+      → showAt (l .shows) i .settings ≡ cond (showAt (l .shows) i .slave) ss sm
 
--- two gateways just loaded, after a list of calls
-abbrev pub runOf : List ℕ → List Record → List ℕ → List Record → ℕ → Clocks → List Event → Run
-runOf wm rm ws rs cid c vs = afterAll cid c (begun (loadedOf wm rm .lent) (loadedOf ws rs .lent)) vs
+-- two gateways just loaded, the master's and the slave's, each with its number, list and slice of records, after a list
+-- of calls and loadings of the slave's; the master's number is not looked at
+abbrev pub runOf : ℕ → List ℕ → List Record → ℕ → List ℕ → List Record → ℕ → Clocks → List Event → Run
+runOf nm wm rm ns ws rs cid c vs =
+    afterAll cid (begun (loadedOf nm wm rm .lent) (loadedOf ns ws rs .lent) ns c) vs
 
 -- demand 3, for every list that keeps to what it runs over
 abbrev pub Demand : Type 0
-Demand = (wm ws : List ℕ) (rm rs : List Record) (cid : ℕ) (hm : Holds wm rm cid false) (hs : Holds ws rs cid true)
-    (c : Clocks) (vs : List Event)
-    → runOf wm rm ws rs cid c vs .allowed ≡ true
-    → Fresh cid (settingsIn hm) (settingsIn hs) (runOf wm rm ws rs cid c vs)
+Demand = (nm ns : ℕ) (wm ws : List ℕ) (rm rs : List Record) (cid : ℕ)
+    (hm : Holds nm wm rm cid false) (hs : Holds ns ws rs cid true) (c : Clocks) (vs : List Event)
+    → runOf nm wm rm ns ws rs cid c vs .allowed ≡ true
+    → Fresh cid (settingsIn hm) (settingsIn hs) (runOf nm wm rm ns ws rs cid c vs)
 
 -- an end has written no S-Refresh of the CID after a moment
 abbrev pub SilentSince : ℕ → Bool → ℕ → Run → Type 0
@@ -70,10 +73,9 @@ SilentSince cid slave last l =
 
 -- then every show at the other end that is not fail-safe comes within the bound after it
 abbrev pub Silence : Type 0
-Silence = (wm ws : List ℕ) (rm rs : List Record) (cid : ℕ) (hm : Holds wm rm cid false) (hs : Holds ws rs cid true)
-    (c : Clocks) (vs : List Event) (slave : Bool) (last : ℕ)
-    → runOf wm rm ws rs cid c vs .allowed ≡ true
-    → SilentSince cid (not slave) last (runOf wm rm ws rs cid c vs)
-    → (i : ℕ) → i < length (runOf wm rm ws rs cid c vs .shows)
-    → showAt (runOf wm rm ws rs cid c vs .shows) i .slave ≡ slave
-    → showAt (runOf wm rm ws rs cid c vs .shows) i .moment ≤ last + boundOf (cond slave (settingsIn hs) (settingsIn hm))
+Silence = (nm ns : ℕ) (wm ws : List ℕ) (rm rs : List Record) (cid : ℕ)
+    (hm : Holds nm wm rm cid false) (hs : Holds ns ws rs cid true) (c : Clocks) (vs : List Event)
+    (slave : Bool) (last : ℕ) → let l = runOf nm wm rm ns ws rs cid c vs in
+    l .allowed ≡ true → SilentSince cid (not slave) last l
+    → (i : ℕ) → i < length (l .shows) → showAt (l .shows) i .slave ≡ slave
+    → showAt (l .shows) i .moment ≤ last + boundOf (showAt (l .shows) i .settings)

@@ -1,34 +1,41 @@
--- Two gateways over a list of calls, to be read beside document 01, "What demand 3 runs over": its sentences stand here
--- in their order, each above what says it; its devices are gateways. All is for one CID that both hold.
+-- Two gateways over a list of calls, to be read beside document 01, "What demand 3 runs over", and document 02, note 8:
+-- their sentences stand here in their order, each above what says it; their devices are gateways. All is for one CID
+-- that both hold.
 use mathlib.Core.Bool.{Bool, true, false, _&&_, _||_, not, cond, Bool·beq}
 use mathlib.Core.List.{List, [], _∷_, _++_}
 use mathlib.Core.Option.{Option, some, none}
-use Prim.Native.Nat.{ℕ, suc}
+use Prim.Native.Nat.{ℕ, suc, _-_}
 use lib.Dec.{eqb, leb}
 use lib.ListN.{length, getD}
 use Rattle.words.specs.Bytes.{same}
+use Rattle.endpoint.specs.declared.Settings.{Settings}
 use Rattle.endpoint.specs.Answers.{isDone}
 use Rattle.steps.specs.Frames.{Written, bytesOf}
-use Rattle.gateway.specs.Tables.{Lent, placeOf, isReading}
+use Rattle.records.specs.declared.Record.{Record}
+use Rattle.gateway.specs.Tables.{Lent, endpointAt, isEntry, placeOf, isReading}
+use Rattle.gateway.specs.Loading.{Loaded, loadedOf}
 use Rattle.gateway.specs.Calls.{Result, ticksIn}
-use Rattle.runs.specs.Steps.{Call, act, send, deliver, show, Step, load, call, callIn}
-use Rattle.runs.specs.Bus.{onBus, isFrameOf, isRefreshOf}
-use Rattle.link.specs.Runs.{Clocks, momentOf, Show, shown}
+use Rattle.runs.specs.Steps.{Call, act, send, deliver, show, callIn}
+use Rattle.runs.specs.Bus.{onBus, isFrameOf, isRefreshOf, sessionIn}
+use Rattle.link.specs.Runs.{Clocks, momentOf, Grant, grant, givenBy, mayTravel, Show, shown}
 
 -- ---- what is kept along the list
--- a frame of the CID that was written: by whom, when, the bytes, and the value lent to the call
+-- a frame of the CID that was written: by whom, when, after how many later loadings of the slave, the bytes, and the
+-- value lent to the call
 pub record Sent : Type 0 where
   pub slave : Bool
   pub moment : ℕ
+  pub loads : ℕ
   pub bytes : List ℕ
   pub lent : Option (List ℕ)
 
-abbrev pub sent : Bool → ℕ → List ℕ → Option (List ℕ) → Sent
-sent slave moment bytes lent = record { slave = slave; moment = moment; bytes = bytes; lent = lent }
+abbrev pub sent : Bool → ℕ → ℕ → List ℕ → Option (List ℕ) → Sent
+sent slave moment loads bytes lent =
+    record { slave = slave; moment = moment; loads = loads; bytes = bytes; lent = lent }
 
 -- what stands past the end of the log is of no account
 abbrev pub noSent : Sent
-noSent = sent false 0 [] none
+noSent = sent false 0 0 [] none
 
 unfoldable pub sentAt : List Sent → ℕ → Sent
 sentAt l i = getD l i noSent
@@ -37,6 +44,11 @@ pub record Run : Type 0 where
   -- each end's gateway and slice of records
   pub master : Lent
   pub slave : Lent
+  -- the constants of their clocks; the slave's is that of its last loading
+  pub clocks : Clocks
+  -- how often the slave's gateway was loaded again, and the session numbers given to the slave
+  pub loads : ℕ
+  pub given : List Grant
   -- the frames of the CID that were written, oldest first
   pub log : List Sent
   -- the done shows of the CID's entry that were not fail-safe, oldest first
@@ -50,11 +62,14 @@ pub record Run : Type 0 where
   pub allowed : Bool
 
 -- ---- "Two devices, just loaded with answer 0, hold one common CID, one as master, the other as slave, beside
--- whatever others." How they hold it is Holds in Demand.
-abbrev pub begun : Lent → Lent → Run
-begun dm ds = record {
+-- whatever others." How they hold it is Holds in Demand. The slave's was loaded with a session number.
+abbrev pub begun : Lent → Lent → ℕ → Clocks → Run
+begun dm ds number clocks = record {
   master = dm;
   slave = ds;
+  clocks = clocks;
+  loads = 0;
+  given = grant number 0 ∷ [];
   log = [];
   shows = [];
   masterTook = 0;
@@ -64,24 +79,14 @@ begun dm ds = record {
 }
 
 -- ---- "The list has any calls but load on either, for whatever entry, refused ones and kinds that a later paper adds
--- included."
--- a step at the slave's gateway or the master's
-pub record Event : Type 0 where
-  pub slave : Bool
-  pub step : Step
-
--- a list with a load is none of demand 3's
-abbrev pub notAllowed : Run → Run
-notAllowed l = record {
-  master = l .master;
-  slave = l .slave;
-  log = l .log;
-  shows = l .shows;
-  masterTook = l .masterTook;
-  slaveTook = l .slaveTook;
-  latest = l .latest;
-  allowed = false;
-}
+-- included." Note 8: "The list then holds such loadings too, answer 0": "Loading a slave, its clock begun anew, while
+-- old frames travel".
+-- a call at the slave's gateway or the master's, with its clock reading and the length of the output lent to it; or the
+-- slave's gateway is loaded again: with a session number, a settings list and whatever slice of records, and the
+-- constant of its clock from then on
+pub data Event : Type 0 where
+  called : (slave : Bool) (clock room : ℕ) → Call → Event
+  loaded : (number : ℕ) → List ℕ → List Record → (constant : ℕ) → Event
 
 -- ---- "Each call gets its device as that device's last call returned it; nobody else writes it meanwhile." Document
 -- 02, note 11: "The age promise counts on the slice being lent whole each time and as the last call left it." A run has
@@ -94,7 +99,8 @@ abbrev pub lentAfter : Bool → Run → Bool → Result → Lent
 lentAfter end l slave r = cond (Bool·beq end slave) (r .lent) (lentAt l end)
 
 -- ---- "A call's moment is its reading at the master, its reading plus D at the slave, D one whole number for the
--- list." This is momentOf in crates/link/specs/Runs.antt.
+-- list." This is momentOf in crates/link/specs/Runs.antt. Note 8: "D .. begins anew at each [loading], and moments
+-- still never fall." A loading takes no reading and has no moment.
 
 -- ---- "Leaving out calls given 1, moments never fall along the list, and at no call is either clock past a reading's
 -- limit."
@@ -117,8 +123,9 @@ lentTo (deliver s) = none
 lentTo (show n) = none
 
 -- what a call put on the bus is logged where the reader takes it for a frame of the CID
-abbrev pub logged : ℕ → Bool → ℕ → Call → Written → List Sent
-logged cid slave m c w = cond (isFrameOf cid (onBus w)) (sent slave m (onBus w) (lentTo c) ∷ []) []
+abbrev pub logged : ℕ → Bool → ℕ → ℕ → Call → Written → List Sent
+logged cid slave m loads c w =
+    cond (isFrameOf cid (onBus w)) (sent slave m loads (onBus w) (lentTo c) ∷ []) []
 
 -- one more than the last place of these bytes, counted on from n; found where none is left
 unfoldable pub lastFrom : ℕ → List ℕ → List Sent → ℕ → ℕ
@@ -129,11 +136,25 @@ lastFrom n s (w ∷ l) found = lastFrom (suc n) s l (cond (same s (w .bytes)) (s
 unfoldable pub lastOf : List ℕ → List Sent → ℕ
 lastOf s l = lastFrom 0 s l 0
 
-abbrev pub mayDeliver : ℕ → List Sent → Call → Bool
-mayDeliver cid l (act a n) = true
-mayDeliver cid l (send n value) = true
-mayDeliver cid l (deliver s) = not (isFrameOf cid s) || leb 1 (lastOf s l)
-mayDeliver cid l (show n) = true
+-- Note 8: "provided neither that number nor one given at a later restart is in any of those frames that still travels
+-- then." A frame of the CID that is handed over carries no number that was given after a loading which it was written
+-- before: mayTravel in crates/link/specs/Runs.antt. Of bytes that were written more than once the last writing counts.
+abbrev pub travels : List Grant → List ℕ → List Sent → Bool
+travels given s l = mayTravel given (sessionIn s) (sentAt l (lastOf s l - 1) .loads)
+
+abbrev pub mayDeliver : ℕ → List Grant → List Sent → Call → Bool
+mayDeliver cid given l (act a n) = true
+mayDeliver cid given l (send n value) = true
+mayDeliver cid given l (deliver s) = not (isFrameOf cid s) || (leb 1 (lastOf s l) && travels given s l)
+mayDeliver cid given l (show n) = true
+
+-- a number is given by each loading, and by each restart of the slave's entry that is done
+abbrev pub givenAfter : ℕ → Bool → Lent → ℕ → Call → Bool → List Grant → List Grant
+givenAfter cid slave d loads (act a n) done given =
+    cond (slave && (eqb (placeOf cid d) n && done)) (givenBy loads a) [] ++ given
+givenAfter cid slave d loads (send n value) done given = given
+givenAfter cid slave d loads (deliver s) done given = given
+givenAfter cid slave d loads (show n) done given = given
 
 -- ---- "A done show of this CID's entry that is not fail-safe has its send: one by the other end, earlier in the list,
 -- that wrote the frame of the showing end's last done deliver of S-Refresh on this CID before the show."
@@ -160,33 +181,61 @@ abbrev pub tookAfter : Bool → ℕ → Run → Bool → Call → Result → ℕ
 tookAfter end cid l slave c r =
     cond (Bool·beq end slave) (tookBy cid (l .log) c (isDone (r .answer)) (tookAt l end)) (tookAt l end)
 
--- the show: at which end, when, the bytes, the age told, that place, and how many frames had been written
+-- the settings of the CID's entry
+abbrev pub settingsFor : ℕ → Lent → Settings
+settingsFor cid d = endpointAt d (placeOf cid d) .settings
+
+-- the show: at which end, its settings, when, the bytes, the age told, that place, and how many frames had been written
 abbrev pub shownBy : ℕ → Bool → Lent → ℕ → ℕ → ℕ → Call → Result → List Show
 shownBy cid slave d m took n c r =
-    cond (showsValue cid d c r) (shown slave m (bytesOf (r .writes)) (ticksIn (r .age)) took n ∷ []) []
+    cond (showsValue cid d c r)
+    (shown slave (settingsFor cid d) m (bytesOf (r .writes)) (ticksIn (r .age)) took n ∷ []) []
 
 -- ---- all of it, along the list
 -- a call at an end with its reading, and what it came to
-abbrev pub afterCall : ℕ → Clocks → Run → Bool → ℕ → Call → Result → Run
-afterCall cid clocks l slave t c r =
-    let m = momentOf clocks slave t in
+abbrev pub afterCall : ℕ → Run → Bool → ℕ → Call → Result → Run
+afterCall cid l slave t c r =
+    let m = momentOf (l .clocks) slave t in
     record {
       master = lentAfter false l slave r;
       slave = lentAfter true l slave r;
-      log = l .log ++ logged cid slave m c (r .writes);
+      clocks = l .clocks;
+      loads = l .loads;
+      given = givenAfter cid slave (lentAt l slave) (l .loads) c (isDone (r .answer)) (l .given);
+      log = l .log ++ logged cid slave m (l .loads) c (r .writes);
       shows = l .shows ++ shownBy cid slave (lentAt l slave) m (tookAt l slave) (length (l .log)) c r;
       masterTook = tookAfter false cid l slave c r;
       slaveTook = tookAfter true cid l slave c r;
       latest = m;
-      allowed = l .allowed && (mayDeliver cid (l .log) c && neverFalls l m);
+      allowed = l .allowed && (mayDeliver cid (l .given) (l .log) c && neverFalls l m);
     }
 
--- a call given 1 is left out
-abbrev pub afterStep : ℕ → Clocks → Run → Bool → Step → Run
-afterStep cid clocks l slave (load ws rs) = notAllowed l
-afterStep cid clocks l slave (call t room c) =
-    cond (isAccepted l slave t) (afterCall cid clocks l slave t c (callIn (lentAt l slave) t room c)) l
+-- a loading has answer 0, and its list holds the CID as slave
+abbrev pub holdsSlave : ℕ → Loaded → Bool
+holdsSlave cid d =
+    isDone (d .answer) && (isEntry (d .lent) (placeOf cid (d .lent)) && settingsFor cid (d .lent) .slave)
 
-unfoldable pub afterAll : ℕ → Clocks → Run → List Event → Run
-afterAll cid clocks l [] = l
-afterAll cid clocks l (v ∷ vs) = afterAll cid clocks (afterStep cid clocks l (v .slave) (v .step)) vs
+abbrev pub afterLoad : ℕ → Run → ℕ → Loaded → ℕ → Run
+afterLoad cid l number d constant = record {
+  master = l .master;
+  slave = d .lent;
+  clocks = record { master = l .clocks .master; slave = constant };
+  loads = suc (l .loads);
+  given = grant number (suc (l .loads)) ∷ l .given;
+  log = l .log;
+  shows = l .shows;
+  masterTook = l .masterTook;
+  slaveTook = l .slaveTook;
+  latest = l .latest;
+  allowed = l .allowed && holdsSlave cid d;
+}
+
+-- a call given 1 is left out
+abbrev pub afterEvent : ℕ → Run → Event → Run
+afterEvent cid l (called slave t room c) =
+    cond (isAccepted l slave t) (afterCall cid l slave t c (callIn (lentAt l slave) t room c)) l
+afterEvent cid l (loaded number ws rs constant) = afterLoad cid l number (loadedOf number ws rs) constant
+
+unfoldable pub afterAll : ℕ → Run → List Event → Run
+afterAll cid l [] = l
+afterAll cid l (v ∷ vs) = afterAll cid (afterEvent cid l v) vs

@@ -13,6 +13,8 @@ use Rattle.gateway.specs.Tables.{endpointAt, placeOf, clockStep}
 use Rattle.cases.specs.Cases.{Case, mainCases, edges, emptyCycles, busyReplies, requestLimits, results, userResults}
 use Rattle.cases.specs.Cases.{commands, commandReplies, agesAtSlave, agesAtMaster, noAges, lentSlices, loadings, fullTable, connections, loadingAll, Hold}
 use Rattle.cases.specs.ErrorRecords.{records, days, readings, writings, userRecords, queued, readReplies, writeReplies}
+use Rattle.cases.specs.ErrorRecords.{recordCases}
+use Rattle.cases.specs.Sessions.{sessionsAtSlave, sessionsAtMaster, sessionForms}
 use Rattle.cases.specs.Table.{CasesHold}
 use Rattle.errors.specs.Calendar.{daysOf, daysIn, isDate}
 use Rattle.errors.specs.Reading.{hasDigits, hasCount, isRecord, moreFollows}
@@ -127,6 +129,20 @@ unfolding Hold writeReplies controlOf setupData recordIn settingsAt endpointAt p
     hasDigits hasCount isRecord
 write-replies-hold = refl
 
+slave-sessions-hold : Hold sessionsAtSlave
+unfolding Hold sessionsAtSlave controlOf setupData settingsAt daysOf daysIn isDate hasDigits hasCount isRecord moreFollows
+slave-sessions-hold = refl
+
+master-sessions-hold : Hold sessionsAtMaster
+unfolding Hold sessionsAtMaster controlOf setupData handedOver recordIn settingsAt
+master-sessions-hold = refl
+
+session-forms-hold : Hold sessionForms
+unfolding Hold sessionForms controlOf hasForm hasCheckWord fieldsIn readingOfCopies readingOf headBytes withCheckWord
+    twice bitStep bitSteps byteStep crcFrom crc connectionAt settingsAt isConnectionAt isNewAt areConnections isList
+    endpointAt
+session-forms-hold = refl
+
 -- ---- the parts together
 both : (xs ys : List Case) → Hold xs → Hold ys → Hold (xs ++ ys)
 unfolding Hold
@@ -146,10 +162,16 @@ main-hold =
     (both _ _ master-ages-hold
     (both _ _ no-ages-hold (both _ _ slices-hold (both _ _ loadings-hold full-holds))))))))))))
 
+records-together : Hold recordCases
+records-together =
+    both _ _ records-hold
+    (both _ _ days-hold
+    (both _ _ readings-hold
+    (both _ _ writings-hold
+    (both _ _ user-records-hold (both _ _ queued-hold (both _ _ read-replies-hold write-replies-hold))))))
+
 pub cases-hold : CasesHold
 cases-hold =
     both _ _ main-hold
-    (both _ _ records-hold
-    (both _ _ days-hold
-    (both _ _ readings-hold
-    (both _ _ writings-hold (both _ _ user-records-hold (both _ _ queued-hold (both _ _ read-replies-hold write-replies-hold)))))))
+    (both _ _ records-together
+    (both _ _ slave-sessions-hold (both _ _ master-sessions-hold session-forms-hold)))

@@ -8,6 +8,8 @@ use lib.Dec.{eqb}
 use lib.ListN.{length, replicate}
 use Rattle.frame.specs.declared.Command.{Command}
 use Rattle.frame.specs.declared.Command.the-variants as K
+use Rattle.frame.specs.declared.Subconnection.{Subconnection}
+use Rattle.frame.specs.declared.Subconnection.the-variants.{Number}
 use Rattle.frame.specs.declared.Fields.{Fields}
 use Rattle.frame.specs.declared.Reading.the-variants.{Frame}
 use Rattle.words.specs.Words.{wordAt, wordBytes}
@@ -30,10 +32,10 @@ use Rattle.endpoint.specs.Answers.{numberOf}
 use Rattle.endpoint.specs.Table.{rowOf}
 use Rattle.endpoint.specs.Time.{afterTick}
 use Rattle.endpoint.specs.Updates.{inState, timedFrom, withTimestamps, withSetup, withPending, withRequests}
-use Rattle.endpoint.specs.Updates.{withNotReady}
+use Rattle.endpoint.specs.Updates.{withSession, withNotReady}
 use Rattle.endpoint.specs.TCode.{tCodeOf, ccOf, slaveTime}
 use Rattle.transitions.specs.ByCall.{freshOf}
-use Rattle.steps.specs.Frames.{Written, nothing, frame, value, bytesOf, setupData, sentFields, ackFields}
+use Rattle.steps.specs.Frames.{Written, nothing, frame, value, bytesOf, setupData, sessionWith, sentFields, ackFields}
 use Rattle.steps.specs.Calls.{Outcome, startOf, restartOf, setResultOf, clearResultOf, commandData, invokeOf, sendOf}
 use Rattle.steps.specs.Calls.{stopOf, isFailSafe, shownOf, shownAge}
 use Rattle.steps.specs.Deliveries.{deliverOf}
@@ -63,10 +65,14 @@ slaveSettings = settingsAt (listOf 0x30000421) 0
 abbrev ageless : Settings
 ageless = settingsOf 0x0102 0x0103 0x021 100 50 0 7
 
--- an endpoint in a state since some reading, with what it has measured and its ts_offset
+-- the session number of the cases
+abbrev pub seven : Subconnection
+seven = Number 7
+
+-- an endpoint in a state since some reading, with what it has measured, its ts_offset and this session number
 abbrev pub endpointIn : Settings → State → ℕ → ℕ → ℕ → Endpoint
 endpointIn s state since measured offset =
-    inState state (timedFrom since (withSetup Nothing measured offset 0 Empty false (freshOf s)))
+    inState state (timedFrom since (withSetup Nothing measured offset 0 Empty false (withSession seven (freshOf s 7))))
 
 abbrev pub cid : ℕ
 cid = 0x01020103
@@ -79,7 +85,7 @@ abbrev pub zeroWord : List ℕ
 zeroWord = wordBytes 0
 
 -- ---- parts as numbers, 0 for none
-abbrev stampOf : Timestamp → ℕ
+abbrev pub stampOf : Timestamp → ℕ
 stampOf Never = 0
 stampOf (At s) = s
 
@@ -105,7 +111,7 @@ agedIn None = 0
 agedIn (Ticks n) = suc n
 
 -- of what a call writes: CTRL and the timestamp
-abbrev controlIn : Written → ℕ
+abbrev pub controlIn : Written → ℕ
 controlIn nothing = 0
 controlIn (frame f body) = controlOf f
 controlIn (value bytes) = 0
@@ -137,7 +143,8 @@ sentBytes e t =
 -- a request at 6,040 with timestamp 10, at a station that is ready or not, in a state since 6,000, with an s2 of 5
 abbrev asked : Bool → State → Command → List ℕ → Outcome
 asked notready state k body =
-    deliverOf (withNotReady notready (endpointIn slaveSettings state 6000 5 0)) 6040 (sentFields k false cid 10 0) body
+    let e = withNotReady notready (endpointIn slaveSettings state 6000 5 0) in
+    deliverOf e 6040 (sentFields k false (sessionWith e k) cid 10 0) body
 
 -- at one that is not ready, with the data that it compares
 abbrev askedRight : State → Command → Outcome
@@ -154,7 +161,7 @@ replying o =
 abbrev reply : Bool → Bool → List ℕ → Outcome
 reply busy error body =
     deliverOf (withPending (Asked 1000) (endpointIn masterSettings ParamVerify 1000 5 0)) 1030
-    (ackFields K.RefreshReady busy error cid 1000) body
+    (ackFields K.RefreshReady busy error seven cid 1000) body
 
 -- its number; the state, the timer's start, m2 and the pending request that it leaves
 abbrev hearing : Outcome → List ℕ
@@ -168,7 +175,7 @@ dueAgain = reply true false zeroWord .endpoint
 -- Readying: S-RefreshGO, sent at 1,040 with OBL 10, taken by the slave whose s2 is 6,010
 abbrev readying : Outcome
 readying =
-    deliverOf (endpointIn slaveSettings RefreshPending 6010 6010 0) 6050 (sentFields K.RefreshGo false cid 1040 10)
+    deliverOf (endpointIn slaveSettings RefreshPending 6010 6010 0) 6050 (sentFields K.RefreshGo false seven cid 1040 10)
     zeroWord
 
 abbrev ready : Endpoint
@@ -177,7 +184,7 @@ ready = readying .endpoint
 -- an S-Refresh of the other end with this timestamp and word
 abbrev refreshed : Endpoint → ℕ → ℕ → ℕ → Outcome
 refreshed e t stamp w =
-    deliverOf e t (sentFields K.Refresh (not (e .settings .slave)) cid stamp 0) (wordBytes w)
+    deliverOf e t (sentFields K.Refresh (not (e .settings .slave)) seven cid stamp 0) (wordBytes w)
 
 -- the state, the timer's start, the last timestamp accepted, the age then of the value held, and its word
 abbrev held : Endpoint → List ℕ
@@ -267,7 +274,7 @@ wholeAfter r = lent (r .lent .gateway) (r .lent .records ++ (blankRecord ∷ [])
 
 -- an S-Refresh that is later than the one accepted, in bytes
 abbrev arrived : List ℕ
-arrived = frameBytes (sentFields K.Refresh false cid 1220 0) (wordBytes 0x090A0B0C)
+arrived = frameBytes (sentFields K.Refresh false seven cid 1220 0) (wordBytes 0x090A0B0C)
 
 -- what is held of each record: as it was; with that S-Refresh taken at 6,240; ended; blank
 abbrev asItWas : List ℕ
@@ -302,12 +309,12 @@ connections n = connectionsFrom 0 n
 
 -- a loading: its number; what it leaves
 abbrev loading : List ℕ → List Record → List ℕ
-loading ws rs = numberOf (loadedOf ws rs .answer) ∷ leaving (loadedOf ws rs .lent)
+loading ws rs = numberOf (loadedOf 7 ws rs .answer) ∷ leaving (loadedOf 7 ws rs .lent)
 
 -- of so many connections into as many records: its number, the size of the table and the CID of its last record
 abbrev pub loadingAll : ℕ → List ℕ
 loadingAll n =
-    let l = loadedOf (connections n) (replicate n blankRecord) in
+    let l = loadedOf 7 (connections n) (replicate n blankRecord) in
     numberOf (l .answer) ∷ l .lent .gateway .count ∷ endpointAt (l .lent) (n - 1) .settings .connection ∷ []
 
 -- the frame check of a frame with this CTRL
@@ -338,7 +345,7 @@ station notready state result =
 
 -- S-InvokeFunc there, with this timestamp, at 6,030 and as many ticks
 abbrev invoked : Endpoint → ℕ → List ℕ → Outcome
-invoked e stamp body = deliverOf e (6030 + stamp) (sentFields K.InvokeFunc false cid stamp 0) body
+invoked e stamp body = deliverOf e (6030 + stamp) (sentFields K.InvokeFunc false seven cid stamp 0) body
 
 -- once, with timestamp 10
 abbrev performed : Bool → State → List ℕ → Outcome
@@ -402,11 +409,11 @@ commanded = sendOf (waiting ParamVerify) 1010 [] .endpoint
 -- its reply at 1,030 as the reader hands it on: Busy, Error, timestamp and S-Data
 abbrev pub answered : Bool → Bool → ℕ → List ℕ → Result
 answered busy error stamp body =
-    byReading (alone commanded) 1030 248 body (Frame (ackFields K.InvokeFunc busy error cid stamp) 0 (length body))
+    byReading (alone commanded) 1030 248 body (Frame (ackFields K.InvokeFunc busy error seven cid stamp) 0 (length body))
 
 -- the result in bytes
 abbrev resultBytes : List ℕ
-resultBytes = frameBytes (ackFields K.InvokeFunc false false cid 1010) weighed
+resultBytes = frameBytes (ackFields K.InvokeFunc false false seven cid 1010) weighed
 
 -- its number, entry and count; the state, the timer's start, m2, the pending request and the queue that it leaves; the
 -- bytes written
@@ -423,7 +430,7 @@ answeredBy r = endpointAt (r .lent) 0
 -- S-RefreshReady sent at 1,010, and answered Busy at 1,030
 abbrev readyGone : Endpoint
 readyGone =
-    deliverOf (sendOf (master ParamVerify) 1010 [] .endpoint) 1030 (ackFields K.RefreshReady true false cid 1010)
+    deliverOf (sendOf (master ParamVerify) 1010 [] .endpoint) 1030 (ackFields K.RefreshReady true false seven cid 1010)
     zeroWord .endpoint
 
 pub record Case : Type 0 where
@@ -442,15 +449,15 @@ unfoldable pub edges : List Case
 edges =
     -- CID of master 1/2, slave 1/3
     case (masterSettings .connection) 0x01020103
-    -- the slave's S-Refresh has CTRL 0xFF040000; sending time 65,530, ts_offset 10: T code 4, CC 1
-    ∷ row (sentBytes (endpointIn slaveSettings Refresh 0 0 10) 65530) (0xFF040000 ∷ 0x01020103 ∷ 4 ∷ 0 ∷ 1 ∷ [])
-    -- the S-Connect reply has CTRL 0x00840000
+    -- the slave's S-Refresh has CTRL 0xFF050007; sending time 65,530, ts_offset 10: T code 4, CC 1
+    ∷ row (sentBytes (endpointIn slaveSettings Refresh 0 0 10) 65530) (0xFF050007 ∷ 0x01020103 ∷ 4 ∷ 0 ∷ 1 ∷ [])
+    -- the S-Connect reply has CTRL 0x00850007
     ∷ row (replying (asked false Close K.Connect word))
-    (0 ∷ 0x00840000 ∷ 10 ∷ rowOf EstablishPending ∷ 6040 ∷ 5 ∷ 10 ∷ [])
+    (0 ∷ 0x00850007 ∷ 10 ∷ rowOf EstablishPending ∷ 6040 ∷ 5 ∷ 10 ∷ [])
     -- ts_offset, and what the slave sending at 6,100 stamps
-    ∷ row (replying readying) (0 ∷ 0xFE840000 ∷ 1040 ∷ rowOf Refresh ∷ 6050 ∷ 6010 ∷ 1040 ∷ [])
+    ∷ row (replying readying) (0 ∷ 0xFE850007 ∷ 1040 ∷ rowOf Refresh ∷ 6050 ∷ 6010 ∷ 1040 ∷ [])
     ∷ case (ready .setup .offset) 281474976705676
-    ∷ row (calling (sendOf ready 6100 word)) (0 ∷ 0xFF040000 ∷ 1120 ∷ rowOf Refresh ∷ 0 ∷ [])
+    ∷ row (calling (sendOf ready 6100 word)) (0 ∷ 0xFF050007 ∷ 1120 ∷ rowOf Refresh ∷ 0 ∷ [])
     -- both in the standard's words; and the highest clock and ts_offset that the code can be handed
     ∷ case (tCodeOf 65530 10) 4
     ∷ case (ccOf 65530 10) 1
@@ -492,25 +499,25 @@ busyReplies =
     -- a station that is not ready: Busy in replies to 0x01, 0x02 and 0xFC, and in no others; with Busy it stays in its
     -- state, its timer runs from the reply, and s2 is not fixed
     row (replying (askedRight EstablishPending K.ConfirmNetwork))
-    (0 ∷ 0x01C40000 ∷ 10 ∷ rowOf EstablishPending ∷ 6040 ∷ 5 ∷ 10 ∷ [])
+    (0 ∷ 0x01C50007 ∷ 10 ∷ rowOf EstablishPending ∷ 6040 ∷ 5 ∷ 10 ∷ [])
     ∷ row (replying (askedRight Establish K.VerifyStation))
-    (0 ∷ 0x02C40000 ∷ 10 ∷ rowOf Establish ∷ 6040 ∷ 5 ∷ 10 ∷ [])
+    (0 ∷ 0x02C50007 ∷ 10 ∷ rowOf Establish ∷ 6040 ∷ 5 ∷ 10 ∷ [])
     ∷ row (replying (askedRight ParamVerify K.RefreshReady))
-    (0 ∷ 0xFCC40000 ∷ 10 ∷ rowOf ParamVerify ∷ 6040 ∷ 5 ∷ 10 ∷ [])
+    (0 ∷ 0xFCC50007 ∷ 10 ∷ rowOf ParamVerify ∷ 6040 ∷ 5 ∷ 10 ∷ [])
     ∷ row (replying (askedRight Close K.Connect))
-    (0 ∷ 0x00840000 ∷ 10 ∷ rowOf EstablishPending ∷ 6040 ∷ 5 ∷ 10 ∷ [])
+    (0 ∷ 0x00850007 ∷ 10 ∷ rowOf EstablishPending ∷ 6040 ∷ 5 ∷ 10 ∷ [])
     ∷ row (replying (askedRight RefreshPending K.RefreshGo))
-    (0 ∷ 0xFE840000 ∷ 10 ∷ rowOf Refresh ∷ 6040 ∷ 5 ∷ 10 ∷ [])
+    (0 ∷ 0xFE850007 ∷ 10 ∷ rowOf Refresh ∷ 6040 ∷ 5 ∷ 10 ∷ [])
     -- ready, it fixes s2
     ∷ row (replying (asked false ParamVerify K.RefreshReady zeroWord))
-    (0 ∷ 0xFC840000 ∷ 10 ∷ rowOf RefreshPending ∷ 6040 ∷ 6040 ∷ 10 ∷ [])
+    (0 ∷ 0xFC850007 ∷ 10 ∷ rowOf RefreshPending ∷ 6040 ∷ 6040 ∷ 10 ∷ [])
     -- unequal contents: 16, with Error and without Busy
     ∷ row (replying (asked true ParamVerify K.RefreshReady word))
-    (16 ∷ 0xFCA40000 ∷ 10 ∷ rowOf Terminate ∷ 6000 ∷ 5 ∷ 10 ∷ [])
+    (16 ∷ 0xFCA50007 ∷ 10 ∷ rowOf Terminate ∷ 6000 ∷ 5 ∷ 10 ∷ [])
     -- a master on a Busy reply: its state stays, its timer starts afresh, m2 is not fixed, and the same Cmd is due
     -- again with a new timestamp; without Busy it moves on, and m2 is fixed
     ∷ row (hearing (reply true false zeroWord)) (0 ∷ rowOf ParamVerify ∷ 1030 ∷ 5 ∷ 0 ∷ [])
-    ∷ row (calling (sendOf dueAgain 1031 [])) (0 ∷ 0xFC000000 ∷ 1031 ∷ rowOf ParamVerify ∷ 1 ∷ [])
+    ∷ row (calling (sendOf dueAgain 1031 [])) (0 ∷ 0xFC010007 ∷ 1031 ∷ rowOf ParamVerify ∷ 1 ∷ [])
     ∷ row (hearing (reply false false zeroWord)) (0 ∷ rowOf RefreshPending ∷ 1030 ∷ 1030 ∷ 0 ∷ [])
     -- with Error, or with other contents: 16
     ∷ row (hearing (reply true true zeroWord)) (16 ∷ rowOf Terminate ∷ 1000 ∷ 5 ∷ 1000 ∷ [])
@@ -529,7 +536,7 @@ busyReplies =
 unfoldable pub requestLimits : List Case
 requestLimits =
     -- request 45 is written and counted; request 46 is 19: nothing is written, and the connection ends
-    row (calling (sentAfter 44 EstablishPending 1010)) (0 ∷ 0x01000000 ∷ 1010 ∷ rowOf EstablishPending ∷ 45 ∷ [])
+    row (calling (sentAfter 44 EstablishPending 1010)) (0 ∷ 0x01010007 ∷ 1010 ∷ rowOf EstablishPending ∷ 45 ∷ [])
     ∷ row (calling (sentAfter 45 EstablishPending 1010)) (19 ∷ 0 ∷ 0 ∷ rowOf Terminate ∷ 45 ∷ [])
     -- 19 before 17, and after 11; a count that no call leaves
     ∷ row (calling (sentAfter 44 EstablishPending 1000)) (17 ∷ 0 ∷ 0 ∷ rowOf EstablishPending ∷ 44 ∷ [])
@@ -538,10 +545,10 @@ requestLimits =
     (11 ∷ 0 ∷ 0 ∷ rowOf EstablishPending ∷ 45 ∷ [])
     ∷ row (calling (sentAfter 255 EstablishPending 1010)) (19 ∷ 0 ∷ 0 ∷ rowOf Terminate ∷ 255 ∷ [])
     -- S-Refresh and S-Disconnect are no requests
-    ∷ row (calling (sentAfter 45 Refresh 1010)) (0 ∷ 0xFF000000 ∷ 1010 ∷ rowOf Refresh ∷ 45 ∷ [])
-    ∷ row (calling (stopOf (after 45 EstablishPending) 1010)) (0 ∷ 0xF9000000 ∷ 1010 ∷ rowOf Terminate ∷ 45 ∷ [])
+    ∷ row (calling (sentAfter 45 Refresh 1010)) (0 ∷ 0xFF010007 ∷ 1010 ∷ rowOf Refresh ∷ 45 ∷ [])
+    ∷ row (calling (stopOf (after 45 EstablishPending) 1010)) (0 ∷ 0xF9010007 ∷ 1010 ∷ rowOf Terminate ∷ 45 ∷ [])
     -- a restart keeps the count, a start begins it anew
-    ∷ row (calling (restartOf (after 45 Terminate))) (0 ∷ 0 ∷ 0 ∷ rowOf Close ∷ 45 ∷ [])
+    ∷ row (calling (restartOf (after 45 Terminate) 7)) (0 ∷ 0 ∷ 0 ∷ rowOf Close ∷ 45 ∷ [])
     ∷ row (calling (startOf (after 45 Close) 1010)) (0 ∷ 0 ∷ 0 ∷ rowOf Starting ∷ 0 ∷ [])
     ∷ []
 
@@ -551,31 +558,31 @@ unfoldable pub results : List Case
 results =
     -- no result: Busy, the words repeated; it leads to FuncRunning all the same, and the timer runs from the reply
     row (performing (performed false ParamVerify []))
-    (0 ∷ 0x03C40000 ∷ 10 ∷ rowOf FuncRunning ∷ 6040 ∷ 5 ∷ 10 ∷ 0 ∷ tare)
+    (0 ∷ 0x03C50007 ∷ 10 ∷ rowOf FuncRunning ∷ 6040 ∷ 5 ∷ 10 ∷ 0 ∷ tare)
     -- a result of the request's length is the reply, and stays set
     ∷ row (performing (performed false ParamVerify weighed))
-    (0 ∷ 0x03840000 ∷ 10 ∷ rowOf FuncRunning ∷ 6040 ∷ 5 ∷ 10 ∷ 2 ∷ weighed)
+    (0 ∷ 0x03850007 ∷ 10 ∷ rowOf FuncRunning ∷ 6040 ∷ 5 ∷ 10 ∷ 2 ∷ weighed)
     -- one of another length: Busy
     ∷ row (performing (performed false ParamVerify word))
-    (0 ∷ 0x03C40000 ∷ 10 ∷ rowOf FuncRunning ∷ 6040 ∷ 5 ∷ 10 ∷ 1 ∷ tare)
+    (0 ∷ 0x03C50007 ∷ 10 ∷ rowOf FuncRunning ∷ 6040 ∷ 5 ∷ 10 ∷ 1 ∷ tare)
     -- again in FuncRunning: Busy; the same result answers a later command; once it is cleared, Busy
     ∷ row (performing (invoked (performed false ParamVerify [] .endpoint) 20 tare))
-    (0 ∷ 0x03C40000 ∷ 20 ∷ rowOf FuncRunning ∷ 6050 ∷ 5 ∷ 20 ∷ 0 ∷ tare)
+    (0 ∷ 0x03C50007 ∷ 20 ∷ rowOf FuncRunning ∷ 6050 ∷ 5 ∷ 20 ∷ 0 ∷ tare)
     ∷ row (performing (invoked (performed false ParamVerify weighed .endpoint) 20 weighed))
-    (0 ∷ 0x03840000 ∷ 20 ∷ rowOf FuncRunning ∷ 6050 ∷ 5 ∷ 20 ∷ 2 ∷ weighed)
+    (0 ∷ 0x03850007 ∷ 20 ∷ rowOf FuncRunning ∷ 6050 ∷ 5 ∷ 20 ∷ 2 ∷ weighed)
     ∷ row (performing (invoked (clearResultOf (performed false ParamVerify weighed .endpoint) .endpoint) 20 tare))
-    (0 ∷ 0x03C40000 ∷ 20 ∷ rowOf FuncRunning ∷ 6050 ∷ 5 ∷ 20 ∷ 0 ∷ tare)
+    (0 ∷ 0x03C50007 ∷ 20 ∷ rowOf FuncRunning ∷ 6050 ∷ 5 ∷ 20 ∷ 0 ∷ tare)
     -- the same frame again: 13
     ∷ row (performing (invoked (performed false ParamVerify weighed .endpoint) 10 tare))
     (13 ∷ 0 ∷ 0 ∷ rowOf FuncRunning ∷ 6040 ∷ 5 ∷ 10 ∷ 2 ∷ [])
     -- 1 to 25 words pass
     ∷ row (performing (invoked (station false ParamVerify []) 10 word))
-    (0 ∷ 0x03C40000 ∷ 10 ∷ rowOf FuncRunning ∷ 6040 ∷ 5 ∷ 10 ∷ 0 ∷ word)
+    (0 ∷ 0x03C50007 ∷ 10 ∷ rowOf FuncRunning ∷ 6040 ∷ 5 ∷ 10 ∷ 0 ∷ word)
     ∷ row (performing (invoked (station false ParamVerify (replicate 100 9)) 10 (replicate 100 1)))
-    (0 ∷ 0x03840000 ∷ 10 ∷ rowOf FuncRunning ∷ 6040 ∷ 5 ∷ 10 ∷ 25 ∷ replicate 100 9)
+    (0 ∷ 0x03850007 ∷ 10 ∷ rowOf FuncRunning ∷ 6040 ∷ 5 ∷ 10 ∷ 25 ∷ replicate 100 9)
     -- "not ready" has no say
     ∷ row (performing (performed true ParamVerify weighed))
-    (0 ∷ 0x03840000 ∷ 10 ∷ rowOf FuncRunning ∷ 6040 ∷ 5 ∷ 10 ∷ 2 ∷ weighed)
+    (0 ∷ 0x03850007 ∷ 10 ∷ rowOf FuncRunning ∷ 6040 ∷ 5 ∷ 10 ∷ 2 ∷ weighed)
     -- in other states: 11
     ∷ row (performing (performed false Establish weighed)) (11 ∷ 0 ∷ 0 ∷ rowOf Establish ∷ 6000 ∷ 5 ∷ 0 ∷ 2 ∷ [])
     ∷ row (performing (performed false RefreshPending weighed))
@@ -584,11 +591,11 @@ results =
     -- S-RefreshReady leaves FuncRunning as it leaves ParamVerify: not ready, Busy, and it stays there; ready, it fixes
     -- s2; unequal contents, 16; and FuncRunning takes no earlier command
     ∷ row (replying (askedRight FuncRunning K.RefreshReady))
-    (0 ∷ 0xFCC40000 ∷ 10 ∷ rowOf FuncRunning ∷ 6040 ∷ 5 ∷ 10 ∷ [])
+    (0 ∷ 0xFCC50007 ∷ 10 ∷ rowOf FuncRunning ∷ 6040 ∷ 5 ∷ 10 ∷ [])
     ∷ row (replying (asked false FuncRunning K.RefreshReady zeroWord))
-    (0 ∷ 0xFC840000 ∷ 10 ∷ rowOf RefreshPending ∷ 6040 ∷ 6040 ∷ 10 ∷ [])
+    (0 ∷ 0xFC850007 ∷ 10 ∷ rowOf RefreshPending ∷ 6040 ∷ 6040 ∷ 10 ∷ [])
     ∷ row (replying (asked false FuncRunning K.RefreshReady word))
-    (16 ∷ 0xFCA40000 ∷ 10 ∷ rowOf Terminate ∷ 6000 ∷ 5 ∷ 10 ∷ [])
+    (16 ∷ 0xFCA50007 ∷ 10 ∷ rowOf Terminate ∷ 6000 ∷ 5 ∷ 10 ∷ [])
     ∷ row (replying (askedRight FuncRunning K.VerifyStation)) (11 ∷ 0 ∷ 0 ∷ rowOf FuncRunning ∷ 6000 ∷ 5 ∷ 0 ∷ [])
     ∷ []
 
@@ -614,12 +621,12 @@ userResults =
     (0 ∷ 1 ∷ 0 ∷ rowOf Terminate ∷ 6000 ∷ 0 ∷ 2 ∷ 0x01020304 ∷ [])
     ∷ row (handing (setResultIn (alone (station false ParamVerify weighed)) 6051 0 (replicate 100 9)))
     (9 ∷ 1 ∷ 0 ∷ rowOf Terminate ∷ 6000 ∷ 0 ∷ 2 ∷ 0x01020304 ∷ [])
-    ∷ row (handing (restartIn (alone (station false Terminate weighed)) 6051 0))
+    ∷ row (handing (restartIn (alone (station false Terminate weighed)) 6051 0 7))
     (0 ∷ 1 ∷ 0 ∷ rowOf Close ∷ 6000 ∷ 0 ∷ 2 ∷ 0x01020304 ∷ [])
-    ∷ row (handed (endpointAt (loadedOf (listOf 0x30000421) (recordOf (station false Close weighed) ∷ []) .lent) 0))
+    ∷ row (handed (endpointAt (loadedOf 7 (listOf 0x30000421) (recordOf (station false Close weighed) ∷ []) .lent) 0))
     (0 ∷ 0 ∷ 0 ∷ [])
     -- and no command waits at a master that is loaded
-    ∷ row (handed (endpointAt (loadedOf (listOf 0x30000021) (recordOf (waiting ParamVerify) ∷ []) .lent) 0))
+    ∷ row (handed (endpointAt (loadedOf 7 (listOf 0x30000021) (recordOf (waiting ParamVerify) ∷ []) .lent) 0))
     (0 ∷ 0 ∷ 0 ∷ [])
     ∷ []
 
@@ -654,9 +661,9 @@ commands =
     ∷ row (invoking (master Starting) 7 (1 ∷ [])) (12 ∷ 1 ∷ 0 ∷ rowOf Starting ∷ 1000 ∷ 0 ∷ 0 ∷ 0 ∷ [])
     -- earlier requests go first; the send that would write S-RefreshReady writes the command, and counts it
     ∷ row (commanding (sendOf (waiting Establish) 1010 []))
-    (0 ∷ 0x02000000 ∷ 1010 ∷ rowOf Establish ∷ 1 ∷ 1010 ∷ 1 ∷ wordBytes 7)
+    (0 ∷ 0x02010007 ∷ 1010 ∷ rowOf Establish ∷ 1 ∷ 1010 ∷ 1 ∷ wordBytes 7)
     ∷ row (commanding (sendOf (waiting ParamVerify) 1010 []))
-    (0 ∷ 0x03000000 ∷ 1010 ∷ rowOf ParamVerify ∷ 1 ∷ 1010 ∷ 1 ∷ tare)
+    (0 ∷ 0x03010007 ∷ 1010 ∷ rowOf ParamVerify ∷ 1 ∷ 1010 ∷ 1 ∷ tare)
     ∷ []
 
 -- its reply, and its end
@@ -672,11 +679,11 @@ commandReplies =
     ∷ row (handing (invokeIn (answered false false 1010 weighed .lent) 1040 0 7 []))
     (0 ∷ 1 ∷ 0 ∷ rowOf ParamVerify ∷ 1030 ∷ 1 ∷ 1 ∷ 7 ∷ [])
     ∷ row (commanding (sendOf (answeredBy (answered false false 1010 weighed)) 1040 []))
-    (0 ∷ 0xFC000000 ∷ 1040 ∷ rowOf ParamVerify ∷ 2 ∷ 1040 ∷ 4 ∷ zeroWord)
+    (0 ∷ 0xFC010007 ∷ 1040 ∷ rowOf ParamVerify ∷ 2 ∷ 1040 ∷ 4 ∷ zeroWord)
     -- with Busy and the same words: nothing is written, and the command is due again with a new timestamp
     ∷ row (hearingIn (answered true false 1010 tare)) (0 ∷ 1 ∷ 0 ∷ rowOf ParamVerify ∷ 1030 ∷ 5 ∷ 0 ∷ 1 ∷ [])
     ∷ row (commanding (sendOf (answeredBy (answered true false 1010 tare)) 1040 []))
-    (0 ∷ 0x03000000 ∷ 1040 ∷ rowOf ParamVerify ∷ 2 ∷ 1040 ∷ 1 ∷ tare)
+    (0 ∷ 0x03010007 ∷ 1040 ∷ rowOf ParamVerify ∷ 2 ∷ 1040 ∷ 1 ∷ tare)
     -- Busy with other words, or Error: 16, nothing is written, and the command is gone
     ∷ row (hearingIn (answered true false 1010 weighed)) (16 ∷ 1 ∷ 0 ∷ rowOf Terminate ∷ 1010 ∷ 5 ∷ 1010 ∷ 0 ∷ [])
     ∷ row (hearingIn (answered false true 1010 weighed)) (16 ∷ 1 ∷ 0 ∷ rowOf Terminate ∷ 1010 ∷ 5 ∷ 1010 ∷ 0 ∷ [])
@@ -684,7 +691,7 @@ commandReplies =
     ∷ row (hearingIn (answered false false 1009 word)) (12 ∷ 1 ∷ 0 ∷ rowOf ParamVerify ∷ 1010 ∷ 5 ∷ 1010 ∷ 1 ∷ [])
     ∷ row (hearingIn (answered true false 1010 word)) (12 ∷ 1 ∷ 0 ∷ rowOf ParamVerify ∷ 1010 ∷ 5 ∷ 1010 ∷ 1 ∷ [])
     ∷ row (hearingIn (answered false false 1009 weighed)) (13 ∷ 1 ∷ 0 ∷ rowOf ParamVerify ∷ 1010 ∷ 5 ∷ 1010 ∷ 1 ∷ [])
-    ∷ row (hearing (deliverOf commanded 1030 (ackFields K.RefreshReady false false cid 1010) zeroWord))
+    ∷ row (hearing (deliverOf commanded 1030 (ackFields K.RefreshReady false false seven cid 1010) zeroWord))
     (11 ∷ rowOf ParamVerify ∷ 1010 ∷ 5 ∷ 1010 ∷ [])
     -- once S-RefreshReady has gone since start: 11, also when it was answered Busy
     ∷ row (invoking (sendOf (master ParamVerify) 1010 [] .endpoint) 7 [])
@@ -692,7 +699,7 @@ commandReplies =
     ∷ row (handing (invokeIn (alone readyGone) 1040 0 7 [])) (11 ∷ 1 ∷ 0 ∷ rowOf ParamVerify ∷ 1030 ∷ 4 ∷ 0 ∷ 0 ∷ [])
     -- the connection's end: by stop, by 9 in whatever call, by 19; nothing waits then, nor after the next start
     ∷ row (commanding (stopOf (waiting ParamVerify) 1010))
-    (0 ∷ 0xF9000000 ∷ 1010 ∷ rowOf Terminate ∷ 0 ∷ 0 ∷ 0 ∷ zeroWord)
+    (0 ∷ 0xF9010007 ∷ 1010 ∷ rowOf Terminate ∷ 0 ∷ 0 ∷ 0 ∷ zeroWord)
     ∷ row (handing (deliverIn (alone (waiting ParamVerify)) 1051 248 []))
     (0 ∷ 0 ∷ 0 ∷ rowOf Terminate ∷ 1000 ∷ 0 ∷ 2 ∷ 0x54415245 ∷ [])
     ∷ row (handing (invokeIn (alone (waiting ParamVerify)) 1051 0 7 []))
@@ -730,7 +737,7 @@ noAges =
     row (aging ready 6060) (1 ∷ 0 ∷ 0 ∷ [])
     ∷ row (aging (later 6230 .endpoint) 6331) (1 ∷ 0 ∷ 0 ∷ [])
     ∷ row (aging (stopOf (first .endpoint) 6190 .endpoint) 6200) (1 ∷ 0 ∷ 0 ∷ [])
-    ∷ row (aging (restartOf (stopOf (first .endpoint) 6190 .endpoint) .endpoint) 6200) (1 ∷ 0 ∷ 0 ∷ [])
+    ∷ row (aging (restartOf (stopOf (first .endpoint) 6190 .endpoint) 7 .endpoint) 6200) (1 ∷ 0 ∷ 0 ∷ [])
     ∷ []
 
 -- ---- note 11
@@ -740,7 +747,7 @@ lentSlices =
     row (answering (startIn short 6331 0)) (unchanged 2)
     ∷ row (answering (sendIn short 6331 248 0 word)) (unchanged 2)
     ∷ row (answering (stopIn short 6331 248 0)) (unchanged 2)
-    ∷ row (answering (restartIn short 6331 0)) (unchanged 2)
+    ∷ row (answering (restartIn short 6331 0 7)) (unchanged 2)
     ∷ row (answering (setNotReadyIn short 6331 0 true)) (unchanged 2)
     ∷ row (answering (setResultIn short 6331 0 word)) (unchanged 2)
     ∷ row (answering (clearResultIn short 6331 0)) (unchanged 2)
@@ -779,7 +786,7 @@ loadings =
     -- a slice that is too short: 2; it stays, and the table is of no connections
     ∷ row (loading (connections 2) (inRefresh ∷ [])) (2 ∷ 0 ∷ 0 ∷ asItWas)
     ∷ row (loading (connections 2) []) (2 ∷ 0 ∷ 0 ∷ [])
-    ∷ row (answering (showIn (loadedOf (connections 2) (inRefresh ∷ []) .lent) 5 248 0))
+    ∷ row (answering (showIn (loadedOf 7 (connections 2) (inRefresh ∷ []) .lent) 5 248 0))
     (3 ∷ 0 ∷ 0 ∷ 0 ∷ 5 ∷ 0 ∷ asItWas)
     -- after 18: one CID twice, no words
     ∷ row (loading (connections 1 ++ connections 1) (inRefresh ∷ [])) (18 ∷ 0 ∷ 0 ∷ asItWas)

@@ -15,7 +15,7 @@ use Rattle.endpoint.specs.Endpoint.{Endpoint}
 use Rattle.endpoint.specs.Answers.{numberOf}
 use Rattle.endpoint.specs.Table.{rowOf}
 use Rattle.endpoint.specs.Updates.{inState, withRequests, withNotReady}
-use Rattle.steps.specs.Frames.{bytesOf, wordsBytes, sentFields, ackFields}
+use Rattle.steps.specs.Frames.{bytesOf, wordsBytes, sessionWith, sentFields, ackFields}
 use Rattle.steps.specs.Calls.{Outcome, startOf, restartOf, setRecordOf, clearRecordOf, invokeOf, readErrorOf, writeErrorOf}
 use Rattle.steps.specs.Calls.{sendOf, stopOf, isFailSafe}
 use Rattle.steps.specs.Deliveries.{deliverOf}
@@ -25,7 +25,7 @@ use Rattle.gateway.specs.Loading.{loadedOf}
 use Rattle.gateway.specs.Calls.{Result, stopIn, restartIn, setRecordIn, clearRecordIn, readErrorIn, writeErrorIn, byReading}
 use Rattle.cases.specs.Cases.{Case, row, case, listOf, slaveSettings, endpointIn, cid, word, zeroWord, pendingOf}
 use Rattle.cases.specs.Cases.{ordinalOf, dataIn, calling, replying, alone, master, waiting, commanded, answered}
-use Rattle.cases.specs.Cases.{answeredBy, formOf}
+use Rattle.cases.specs.Cases.{seven, answeredBy, formOf}
 
 -- ---- records
 -- eight bytes of date and time, details, and the word 'more follows'
@@ -121,7 +121,7 @@ station state b = setRecordOf (endpointIn slaveSettings state 6000 5 0) b .endpo
 
 -- a request there, with this timestamp, at 6,030 and as many ticks
 abbrev asked : Endpoint → Command → ℕ → List ℕ → Outcome
-asked e k stamp body = deliverOf e (6030 + stamp) (sentFields k false cid stamp 0) body
+asked e k stamp body = deliverOf e (6030 + stamp) (sentFields k false (sessionWith e k) cid stamp 0) body
 
 -- what replying tells; then how many words of a record are set, and the reply's S-Data
 abbrev reporting : Outcome → List ℕ
@@ -137,8 +137,8 @@ readings =
     ∷ case (formOf 0xFB000000) 0 ∷ case (formOf 0xFB840000) 0 ∷ case (formOf 0xFBC40000) 7 ∷ case (formOf 0xFBA40000) 0
     -- in ParamVerify the reply is the record that is set; the state stays, the timer runs from the reply, the timestamp
     -- counts as accepted, and the record stays set
-    ∷ row (readAt ParamVerify fault) (0 ∷ 0xFA840000 ∷ 10 ∷ rowOf ParamVerify ∷ 6040 ∷ 5 ∷ 10 ∷ 6 ∷ fault)
-    ∷ row (readAt ParamVerify longest) (0 ∷ 0xFA840000 ∷ 10 ∷ rowOf ParamVerify ∷ 6040 ∷ 5 ∷ 10 ∷ 14 ∷ longest)
+    ∷ row (readAt ParamVerify fault) (0 ∷ 0xFA850007 ∷ 10 ∷ rowOf ParamVerify ∷ 6040 ∷ 5 ∷ 10 ∷ 6 ∷ fault)
+    ∷ row (readAt ParamVerify longest) (0 ∷ 0xFA850007 ∷ 10 ∷ rowOf ParamVerify ∷ 6040 ∷ 5 ∷ 10 ∷ 14 ∷ longest)
     -- none set: 11, before 12
     ∷ row (readAt ParamVerify []) (11 ∷ 0 ∷ 0 ∷ rowOf ParamVerify ∷ 6000 ∷ 5 ∷ 0 ∷ 0 ∷ [])
     ∷ row (reporting (asked (station ParamVerify []) K.ReadErrorInfo 10 []))
@@ -156,12 +156,12 @@ readings =
     ∷ row (reporting (asked (station ParamVerify fault) K.ReadErrorInfo 10 fault))
     (12 ∷ 0 ∷ 0 ∷ rowOf ParamVerify ∷ 6000 ∷ 5 ∷ 0 ∷ 6 ∷ [])
     ∷ row (reporting (asked (station ParamVerify fault) K.ReadErrorInfo 10 word))
-    (16 ∷ 0xFAA40000 ∷ 10 ∷ rowOf Terminate ∷ 6000 ∷ 5 ∷ 10 ∷ 6 ∷ word)
+    (16 ∷ 0xFAA50007 ∷ 10 ∷ rowOf Terminate ∷ 6000 ∷ 5 ∷ 10 ∷ 6 ∷ word)
     -- the same frame again: 13; 'not ready' has no say
     ∷ row (reporting (asked (asked (station ParamVerify fault) K.ReadErrorInfo 10 zeroWord .endpoint) K.ReadErrorInfo 10
     zeroWord)) (13 ∷ 0 ∷ 0 ∷ rowOf ParamVerify ∷ 6040 ∷ 5 ∷ 10 ∷ 6 ∷ [])
     ∷ row (reporting (asked (withNotReady true (station ParamVerify fault)) K.ReadErrorInfo 10 zeroWord))
-    (0 ∷ 0xFA840000 ∷ 10 ∷ rowOf ParamVerify ∷ 6040 ∷ 5 ∷ 10 ∷ 6 ∷ fault)
+    (0 ∷ 0xFA850007 ∷ 10 ∷ rowOf ParamVerify ∷ 6040 ∷ 5 ∷ 10 ∷ 6 ∷ fault)
     ∷ []
 
 -- a record is written there; what stands afterwards where one was set before is that one
@@ -172,7 +172,7 @@ abbrev taken : State → List ℕ
 taken state = reporting (written state fault)
 
 abbrev endsIn : State → List ℕ → List ℕ
-endsIn state b = 0 ∷ 0xFB840000 ∷ 10 ∷ rowOf state ∷ 6000 ∷ 5 ∷ 10 ∷ 4 ∷ b
+endsIn state b = 0 ∷ 0xFB850007 ∷ 10 ∷ rowOf state ∷ 6000 ∷ 5 ∷ 10 ∷ 4 ∷ b
 
 abbrev outOfTurn : State → List ℕ
 outOfTurn state = 11 ∷ 0 ∷ 0 ∷ rowOf state ∷ 6000 ∷ 5 ∷ 0 ∷ 4 ∷ []
@@ -204,9 +204,9 @@ writings =
     -- while more follow, Terminate takes a further one, and the last closes it
     ∷ row (reporting (written RefreshPending followed)) (endsIn TerminateMore followed)
     ∷ row (reporting (asked reported K.WriteErrorInfo 20 longest))
-    (0 ∷ 0xFB840000 ∷ 20 ∷ rowOf TerminateMore ∷ 6000 ∷ 5 ∷ 20 ∷ 4 ∷ longest)
+    (0 ∷ 0xFB850007 ∷ 20 ∷ rowOf TerminateMore ∷ 6000 ∷ 5 ∷ 20 ∷ 4 ∷ longest)
     ∷ row (reporting (asked reported K.WriteErrorInfo 20 fault))
-    (0 ∷ 0xFB840000 ∷ 20 ∷ rowOf Terminate ∷ 6000 ∷ 5 ∷ 20 ∷ 4 ∷ fault)
+    (0 ∷ 0xFB850007 ∷ 20 ∷ rowOf Terminate ∷ 6000 ∷ 5 ∷ 20 ∷ 4 ∷ fault)
     ∷ row (reporting (asked (asked reported K.WriteErrorInfo 20 fault .endpoint) K.WriteErrorInfo 30 fault))
     (11 ∷ 0 ∷ 0 ∷ rowOf Terminate ∷ 6000 ∷ 5 ∷ 20 ∷ 4 ∷ [])
     -- a refused one changes nothing: more follow still
@@ -221,7 +221,7 @@ writings =
     ∷ row (calling (stopOf reported 6050)) (11 ∷ 0 ∷ 0 ∷ rowOf TerminateMore ∷ 0 ∷ [])
     ∷ row (calling (sendOf reported 6050 word)) (11 ∷ 0 ∷ 0 ∷ rowOf TerminateMore ∷ 0 ∷ [])
     ∷ case (cond (isFailSafe reported) 1 0) 1
-    ∷ row (reporting (asked (restartOf reported .endpoint) K.WriteErrorInfo 20 fault))
+    ∷ row (reporting (asked (restartOf reported 7 .endpoint) K.WriteErrorInfo 20 fault))
     (11 ∷ 0 ∷ 0 ∷ rowOf Close ∷ 6000 ∷ 5 ∷ 10 ∷ 4 ∷ [])
     ∷ []
 
@@ -268,9 +268,9 @@ userRecords =
     (0 ∷ 1 ∷ 0 ∷ rowOf Terminate ∷ 6000 ∷ 0 ∷ 6 ∷ 0xE2 ∷ [])
     ∷ row (handing (setRecordIn (alone (station ParamVerify fault)) 6051 0 another))
     (9 ∷ 1 ∷ 0 ∷ rowOf Terminate ∷ 6000 ∷ 0 ∷ 6 ∷ 0xE2 ∷ [])
-    ∷ row (handing (restartIn (alone (station Terminate fault)) 6051 0))
+    ∷ row (handing (restartIn (alone (station Terminate fault)) 6051 0 7))
     (0 ∷ 1 ∷ 0 ∷ rowOf Close ∷ 6000 ∷ 0 ∷ 6 ∷ 0xE2 ∷ [])
-    ∷ row (handed (endpointAt (loadedOf (listOf 0x30000421) (recordOf (station Close fault) ∷ []) .lent) 0))
+    ∷ row (handed (endpointAt (loadedOf 7 (listOf 0x30000421) (recordOf (station Close fault) ∷ []) .lent) 0))
     (0 ∷ 0 ∷ 0 ∷ [])
     ∷ []
 
@@ -322,11 +322,11 @@ queued =
     (11 ∷ 1 ∷ 0 ∷ rowOf ParamVerify ∷ 1010 ∷ 4 ∷ 0 ∷ 0 ∷ [])
     -- earlier requests go first; the send that would write S-RefreshReady writes it, and counts it
     ∷ row (sending (sendOf (toRead Establish) 1010 []))
-    (0 ∷ 0x02000000 ∷ 1010 ∷ rowOf Establish ∷ 1 ∷ 1010 ∷ 2 ∷ wordBytes 7)
+    (0 ∷ 0x02010007 ∷ 1010 ∷ rowOf Establish ∷ 1 ∷ 1010 ∷ 2 ∷ wordBytes 7)
     ∷ row (sending (sendOf (toRead ParamVerify) 1010 []))
-    (0 ∷ 0xFA000000 ∷ 1010 ∷ rowOf ParamVerify ∷ 1 ∷ 1010 ∷ 2 ∷ zeroWord)
+    (0 ∷ 0xFA010007 ∷ 1010 ∷ rowOf ParamVerify ∷ 1 ∷ 1010 ∷ 2 ∷ zeroWord)
     ∷ row (sending (sendOf (toWrite ParamVerify) 1010 []))
-    (0 ∷ 0xFB000000 ∷ 1010 ∷ rowOf ParamVerify ∷ 1 ∷ 1010 ∷ 3 ∷ fault)
+    (0 ∷ 0xFB010007 ∷ 1010 ∷ rowOf ParamVerify ∷ 1 ∷ 1010 ∷ 3 ∷ fault)
     -- dropped with the connection's end
     ∷ row (sending (sendOf (withRequests 45 (toWrite ParamVerify)) 1010 []))
     (19 ∷ 0 ∷ 0 ∷ rowOf Terminate ∷ 45 ∷ 0 ∷ 0 ∷ [])
@@ -334,7 +334,7 @@ queued =
 
 -- the request sent at 1,010, and its reply at 1,030: Error, timestamp and S-Data
 abbrev repliedTo : Endpoint → Command → Bool → ℕ → List ℕ → Outcome
-repliedTo e k error stamp body = deliverOf (sendOf e 1010 [] .endpoint) 1030 (ackFields k false error cid stamp) body
+repliedTo e k error stamp body = deliverOf (sendOf e 1010 [] .endpoint) 1030 (ackFields k false error seven cid stamp) body
 
 abbrev readReply : Bool → ℕ → List ℕ → Outcome
 readReply error stamp body = repliedTo (toRead ParamVerify) K.ReadErrorInfo error stamp body
@@ -353,7 +353,7 @@ hearing o =
 abbrev delivered : List ℕ → List ℕ
 delivered body =
     let r = byReading (alone (sendOf (toRead ParamVerify) 1010 [] .endpoint)) 1030 248 body
-    (Frame (ackFields K.ReadErrorInfo false false cid 1010) 0 (length body)) in
+    (Frame (ackFields K.ReadErrorInfo false false seven cid 1010) 0 (length body)) in
     numberOf (r .answer) ∷ ordinalOf (r .entry) ∷ length (bytesOf (r .writes)) ∷ bytesOf (r .writes)
 
 abbrev stays : ℕ → ℕ → List ℕ
@@ -378,7 +378,7 @@ readReplies =
     ∷ row (hearing (readReply true 1010 fault)) ends
     -- after 20 a good reply is still taken; another command's reply: 11, before 20
     ∷ row (hearing (deliverOf (readReply false 1010 noRecord .endpoint) 1040
-    (ackFields K.ReadErrorInfo false false cid 1010) fault)) (0 ∷ rowOf ParamVerify ∷ 1040 ∷ 5 ∷ 0 ∷ 0 ∷ fault)
+    (ackFields K.ReadErrorInfo false false seven cid 1010) fault)) (0 ∷ rowOf ParamVerify ∷ 1040 ∷ 5 ∷ 0 ∷ 0 ∷ fault)
     ∷ row (hearing (repliedTo (toRead ParamVerify) K.WriteErrorInfo false 1010 noRecord)) (stays 11 2)
     ∷ []
 

@@ -2,9 +2,10 @@
 use mathlib.Core.List.{List, _++_}
 use Rattle.cases.specs.Cases.{Case, mainCases, Hold}
 use Rattle.cases.specs.ErrorRecords.{recordCases}
+use Rattle.cases.specs.Sessions.{sessionCases}
 
 abbrev pub cases : List Case
-cases = mainCases ++ recordCases
+cases = mainCases ++ (recordCases ++ sessionCases)
 
 abbrev pub CasesHold : Type 0
 CasesHold = Hold cases

@@ -29,6 +29,7 @@ reasonNumber R.TooSoon = 17
 reasonNumber R.Settings = 18
 reasonNumber R.Exhausted = 19
 reasonNumber R.Record = 20
+reasonNumber R.Session = 21
 
 -- document 01's number of an answer, 0 for done
 abbrev pub numberOf : Answer → ℕ
@@ -40,6 +41,7 @@ numberOf (Ended r) = reasonNumber r
 abbrev pub callFaults : Bool → Bool → Bool → Bool → Faults
 callFaults turn width exhausted soon = record {
   turn = turn;
+  session = false;
   norecord = false;
   width = width;
   exhausted = exhausted;
@@ -54,6 +56,7 @@ callFaults turn width exhausted soon = record {
 abbrev pub recordFaults : Bool → Bool → Faults
 recordFaults turn norecord = record {
   turn = turn;
+  session = false;
   norecord = norecord;
   width = false;
   exhausted = false;
@@ -64,10 +67,11 @@ recordFaults turn norecord = record {
   soon = false;
 }
 
--- what can refuse a setup frame: 11, 20, 12, 13 and 16
-abbrev pub setupFaults : Bool → Bool → Bool → Bool → Bool → Faults
-setupFaults turn norecord width repeat unequal = record {
+-- what can refuse a setup frame: 11, 21, 20, 12, 13 and 16
+abbrev pub setupFaults : Bool → Bool → Bool → Bool → Bool → Bool → Faults
+setupFaults turn session norecord width repeat unequal = record {
   turn = turn;
+  session = session;
   norecord = norecord;
   width = width;
   exhausted = false;
@@ -78,10 +82,11 @@ setupFaults turn norecord width repeat unequal = record {
   soon = false;
 }
 
--- what can refuse an S-Refresh: 11 to 15
-abbrev pub valueFaults : Bool → Bool → Bool → Bool → Bool → Faults
-valueFaults turn width repeat ahead late = record {
+-- what can refuse an S-Refresh: 11, 21 and 12 to 15
+abbrev pub valueFaults : Bool → Bool → Bool → Bool → Bool → Bool → Faults
+valueFaults turn session width repeat ahead late = record {
   turn = turn;
+  session = session;
   norecord = false;
   width = width;
   exhausted = false;
@@ -92,11 +97,12 @@ valueFaults turn width repeat ahead late = record {
   soon = false;
 }
 
--- the first that applies, in the order of the numbers, but for 20, which stands in 12's place and before it, and 19, which
--- comes after 12; 15, 16 and 19 end the connection
+-- the first that applies, in the order of the numbers, but for 21, which comes after 11, 20, which stands in 12's place
+-- and before it, and 19, which comes after 12; 15, 16 and 19 end the connection
 abbrev pub firstOf : Faults → Answer
 firstOf f =
     cond (f .turn) (Dropped R.Turn)
+    (cond (f .session) (Dropped R.Session)
     (cond (f .norecord) (Dropped R.Record)
     (cond (f .width) (Dropped R.Width)
     (cond (f .exhausted) (Ended R.Exhausted)
@@ -104,7 +110,7 @@ firstOf f =
     (cond (f .ahead) (Dropped R.Ahead)
     (cond (f .late) (Ended R.Late)
     (cond (f .unequal) (Ended R.Unequal)
-    (cond (f .soon) (Dropped R.TooSoon) Done))))))))
+    (cond (f .soon) (Dropped R.TooSoon) Done)))))))))
 
 abbrev pub isDone : Answer → Bool
 isDone Done = true

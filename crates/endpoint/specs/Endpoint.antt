@@ -5,6 +5,7 @@ use mathlib.Core.Bool.{Bool}
 use mathlib.Core.List.{List}
 use Prim.Native.Nat.{ℕ}
 use lib.ListN.{replicate}
+use Rattle.frame.specs.declared.Subconnection.{Subconnection}
 use Rattle.endpoint.specs.declared.Settings.{Settings}
 use Rattle.endpoint.specs.declared.State.{State}
 use Rattle.endpoint.specs.declared.Timestamps.{Timestamps}
@@ -30,6 +31,8 @@ pub record Words : Type 0 where
 pub record Endpoint : Type 0 where
   pub settings : Settings
   pub state : State
+  -- the session number: at a slave its user's, at a master that of the S-Connect reply, none before it
+  pub session : Subconnection
   -- where the timer starts
   pub since : ℕ
   pub timestamps : Timestamps
@@ -57,6 +60,7 @@ abbrev pub coreOf : Endpoint → Core
 coreOf e = record {
   settings = e .settings;
   state = e .state;
+  session = e .session;
   since = e .since;
   timestamps = e .timestamps;
   setup = e .setup;
@@ -71,6 +75,7 @@ abbrev pub bare : Core → Endpoint
 bare c = record {
   settings = c .settings;
   state = c .state;
+  session = c .session;
   since = c .since;
   timestamps = c .timestamps;
   setup = c .setup;

@@ -1,6 +1,7 @@
 -- An endpoint with a part of it changed, the others as they were.
 use mathlib.Core.Bool.{Bool}
 use Prim.Native.Nat.{ℕ}
+use Rattle.frame.specs.declared.Subconnection.{Subconnection}
 use Rattle.endpoint.specs.declared.Settings.{Settings}
 use Rattle.endpoint.specs.declared.State.{State}
 use Rattle.endpoint.specs.declared.Timestamp.the-variants.{At}
@@ -12,10 +13,11 @@ use Rattle.endpoint.specs.declared.Station.{Station}
 use Rattle.endpoint.specs.Endpoint.{Value, Words}
 use Rattle.endpoint.specs.Endpoint.{Endpoint}
 
-abbrev pub endpointOf : Settings → State → ℕ → Timestamps → Setup → Station → Words → Words → Value → Endpoint
-endpointOf settings state since timestamps setup station words errorinfo value = record {
+abbrev pub endpointOf : Settings → State → Subconnection → ℕ → Timestamps → Setup → Station → Words → Words → Value → Endpoint
+endpointOf settings state session since timestamps setup station words errorinfo value = record {
   settings = settings;
   state = state;
+  session = session;
   since = since;
   timestamps = timestamps;
   setup = setup;
@@ -26,14 +28,19 @@ endpointOf settings state since timestamps setup station words errorinfo value =
 }
 
 abbrev pub inState : State → Endpoint → Endpoint
-inState s e = endpointOf (e .settings) s (e .since) (e .timestamps) (e .setup) (e .station) (e .words) (e .errorinfo) (e .value)
+inState s e = endpointOf (e .settings) s (e .session) (e .since) (e .timestamps) (e .setup) (e .station) (e .words) (e .errorinfo) (e .value)
 
 -- its timer starts at t
 abbrev pub timedFrom : ℕ → Endpoint → Endpoint
-timedFrom t e = endpointOf (e .settings) (e .state) t (e .timestamps) (e .setup) (e .station) (e .words) (e .errorinfo) (e .value)
+timedFrom t e = endpointOf (e .settings) (e .state) (e .session) t (e .timestamps) (e .setup) (e .station) (e .words) (e .errorinfo) (e .value)
+
+abbrev pub withSession : Subconnection → Endpoint → Endpoint
+withSession n e =
+    endpointOf (e .settings) (e .state) n (e .since) (e .timestamps) (e .setup) (e .station) (e .words) (e .errorinfo)
+    (e .value)
 
 abbrev pub withTimestamps : Timestamps → Endpoint → Endpoint
-withTimestamps ts e = endpointOf (e .settings) (e .state) (e .since) ts (e .setup) (e .station) (e .words) (e .errorinfo) (e .value)
+withTimestamps ts e = endpointOf (e .settings) (e .state) (e .session) (e .since) ts (e .setup) (e .station) (e .words) (e .errorinfo) (e .value)
 
 -- this timestamp is remembered as the last sent, or as the last accepted
 abbrev pub withSent : ℕ → Endpoint → Endpoint
@@ -44,7 +51,7 @@ withAccepted stamp e = withTimestamps (record { sent = e .timestamps .sent; acce
 
 abbrev pub withSetup : Pending → ℕ → ℕ → ℕ → Queue → Bool → Endpoint → Endpoint
 withSetup pending measured offset requests queue invoked e =
-    endpointOf (e .settings) (e .state) (e .since) (e .timestamps)
+    endpointOf (e .settings) (e .state) (e .session) (e .since) (e .timestamps)
     (record {
       pending = pending;
       measured = measured;
@@ -85,18 +92,18 @@ withInvoked b e =
 -- S-Data that its user has handed over
 abbrev pub withWords : Words → Endpoint → Endpoint
 withWords w e =
-    endpointOf (e .settings) (e .state) (e .since) (e .timestamps) (e .setup) (e .station) w (e .errorinfo) (e .value)
+    endpointOf (e .settings) (e .state) (e .session) (e .since) (e .timestamps) (e .setup) (e .station) w (e .errorinfo) (e .value)
 
 -- an error record that its user has handed over
 abbrev pub withErrorInfo : Words → Endpoint → Endpoint
 withErrorInfo w e =
-    endpointOf (e .settings) (e .state) (e .since) (e .timestamps) (e .setup) (e .station) (e .words) w (e .value)
+    endpointOf (e .settings) (e .state) (e .session) (e .since) (e .timestamps) (e .setup) (e .station) (e .words) w (e .value)
 
 abbrev pub holding : Value → Endpoint → Endpoint
-holding v e = endpointOf (e .settings) (e .state) (e .since) (e .timestamps) (e .setup) (e .station) (e .words) (e .errorinfo) v
+holding v e = endpointOf (e .settings) (e .state) (e .session) (e .since) (e .timestamps) (e .setup) (e .station) (e .words) (e .errorinfo) v
 
 -- its user says whether the station is not ready
 abbrev pub withNotReady : Bool → Endpoint → Endpoint
 withNotReady b e =
-    endpointOf (e .settings) (e .state) (e .since) (e .timestamps) (e .setup) (record { notready = b }) (e .words)
+    endpointOf (e .settings) (e .state) (e .session) (e .since) (e .timestamps) (e .setup) (record { notready = b }) (e .words)
     (e .errorinfo) (e .value)

@@ -31,6 +31,7 @@ pub fn reason_number(reason: Reason) -> u8
         Reason::Settings => 18,
         Reason::Exhausted => 19,
         Reason::Record => 20,
+        Reason::Session => 21,
     }
 }
 
@@ -51,6 +52,7 @@ pub fn call_faults(turn: bool, width: bool, exhausted: bool, soon: bool) -> Faul
 {
     Faults {
         turn: turn,
+        session: false,
         norecord: false,
         width: width,
         exhausted: exhausted,
@@ -68,6 +70,7 @@ pub fn record_faults(turn: bool, norecord: bool) -> Faults
 {
     Faults {
         turn: turn,
+        session: false,
         norecord: norecord,
         width: false,
         exhausted: false,
@@ -79,12 +82,20 @@ pub fn record_faults(turn: bool, norecord: bool) -> Faults
     }
 }
 
-// What can refuse a setup frame: 11, 20, 12, 13 and 16.
-pub fn setup_faults(turn: bool, norecord: bool, width: bool, repeat: bool, unequal: bool) -> Faults
-    ensures { λ r. ⌜ r ≡ setupFaults turn norecord width repeat unequal ⌝ }
+// What can refuse a setup frame: 11, 21, 20, 12, 13 and 16.
+pub fn setup_faults(
+    turn: bool,
+    session: bool,
+    norecord: bool,
+    width: bool,
+    repeat: bool,
+    unequal: bool,
+) -> Faults
+    ensures { λ r. ⌜ r ≡ setupFaults turn session norecord width repeat unequal ⌝ }
 {
     Faults {
         turn: turn,
+        session: session,
         norecord: norecord,
         width: width,
         exhausted: false,
@@ -96,12 +107,20 @@ pub fn setup_faults(turn: bool, norecord: bool, width: bool, repeat: bool, unequ
     }
 }
 
-// What can refuse an S-Refresh: 11 to 15.
-pub fn value_faults(turn: bool, width: bool, repeat: bool, ahead: bool, late: bool) -> Faults
-    ensures { λ r. ⌜ r ≡ valueFaults turn width repeat ahead late ⌝ }
+// What can refuse an S-Refresh: 11, 21 and 12 to 15.
+pub fn value_faults(
+    turn: bool,
+    session: bool,
+    width: bool,
+    repeat: bool,
+    ahead: bool,
+    late: bool,
+) -> Faults
+    ensures { λ r. ⌜ r ≡ valueFaults turn session width repeat ahead late ⌝ }
 {
     Faults {
         turn: turn,
+        session: session,
         norecord: false,
         width: width,
         exhausted: false,
@@ -113,12 +132,16 @@ pub fn value_faults(turn: bool, width: bool, repeat: bool, ahead: bool, late: bo
     }
 }
 
-// The first that applies, in the order of the numbers, but for 20, which comes before 12, and 19, which comes after it.
+// The first that applies, in the order of the numbers, but for 21 and 20, which come before 12, and 19, which comes
+// after it.
 pub fn first_of(f: Faults) -> Answer
     ensures { λ r. ⌜ r ≡ firstOf f ⌝ }
 {
     if f.turn {
         return Answer::Dropped(Reason::Turn);
+    }
+    if f.session {
+        return Answer::Dropped(Reason::Session);
     }
     if f.norecord {
         return Answer::Dropped(Reason::Record);

@@ -8,6 +8,8 @@ pub mod table;
 pub mod time;
 pub mod updates;
 
+use frame::Subconnection;
+
 // What a connection was set up with.
 pub struct Settings {
     // CID
@@ -92,6 +94,8 @@ pub struct Station {
 pub struct Core {
     pub settings: Settings,
     pub state: State,
+    // the session number: at a slave its user's, at a master that of the S-Connect reply, none before it
+    pub session: Subconnection,
     // where the timer starts
     pub since: u64,
     pub timestamps: Timestamps,
@@ -155,6 +159,8 @@ pub enum Reason {
     Exhausted,
     // 20, record (document 02)
     Record,
+    // 21, session (document 02)
+    Session,
 }
 
 // Done; refused; or refused with the connection ended.
@@ -164,9 +170,10 @@ pub enum Answer {
     Ended(Reason),
 }
 
-// What applies of the refusals 11 to 17, 19 and 20, in the order in which they are given.
+// What applies of the refusals 11 to 17 and 19 to 21, in the order in which they are given.
 pub struct Faults {
     pub turn: bool,
+    pub session: bool,
     pub norecord: bool,
     pub width: bool,
     pub exhausted: bool,

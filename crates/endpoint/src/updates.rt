@@ -1,7 +1,7 @@
 // A core with a part of it changed that is an enum, the others as they were. Other parts are stored to in place.
 ghost use mathlib.Core.Path.{_≡_};
 ghost use Rattle.endpoint.specs.Endpoint.{bare, coreOf};
-ghost use Rattle.endpoint.specs.Updates.{inState, withSent, withAccepted, withPending, withQueue};
+ghost use Rattle.endpoint.specs.Updates.{inState, withSession, withSent, withAccepted, withPending, withQueue};
 use super::Core;
 use super::Pending;
 use super::Queue;
@@ -9,9 +9,11 @@ use super::Setup;
 use super::State;
 use super::Timestamp;
 use super::Timestamps;
+use frame::Subconnection;
 
-pub fn in_state(state: State, e: Core) -> Core
-    ensures { λ r. ⌜ r ≡ coreOf (inState state (bare e)) ⌝ }
+// Its state and its session number: the struct anew, since neither can be stored to in place.
+fn with_both(state: State, session: Subconnection, e: Core) -> Core
+    ensures { λ r. ⌜ r ≡ coreOf (inState state (withSession session (bare e))) ⌝ }
 {
     let settings = e.settings;
     let timestamps = e.timestamps;
@@ -20,6 +22,7 @@ pub fn in_state(state: State, e: Core) -> Core
     Core {
         settings: settings,
         state: state,
+        session: session,
         since: e.since,
         timestamps: timestamps,
         setup: setup,
@@ -29,6 +32,20 @@ pub fn in_state(state: State, e: Core) -> Core
         taken: e.taken,
         valueage: e.valueage,
     }
+}
+
+pub fn in_state(state: State, e: Core) -> Core
+    ensures { λ r. ⌜ r ≡ coreOf (inState state (bare e)) ⌝ }
+{
+    let session = e.session;
+    with_both(state, session, e)
+}
+
+pub fn with_session(session: Subconnection, e: Core) -> Core
+    ensures { λ r. ⌜ r ≡ coreOf (withSession session (bare e)) ⌝ }
+{
+    let state = e.state;
+    with_both(state, session, e)
 }
 
 // This timestamp is remembered as the last sent.

@@ -52,6 +52,15 @@ abbrev pub isAbsent : Subconnection → Bool
 isAbsent Absent = true
 isAbsent (Number n) = false
 
+-- the same Sub CID, or none in both
+abbrev pub isSame : Subconnection → Subconnection → Bool
+isSame a b = eqb (subconnectionBits a) (subconnectionBits b)
+
+-- its 16 bits
+abbrev pub narrowed : Subconnection → Subconnection
+narrowed Absent = Absent
+narrowed (Number n) = Number (n % 65536)
+
 abbrev pub bit : ℕ → ℕ → Bool
 bit i v = eqb (v / 2 ^ i % 2) 1
 
@@ -99,11 +108,15 @@ errorFits f = not (f .error) || f .ack
 abbrev pub baselineFits : Fields → Bool
 baselineFits f = eqb (f .baseline) 0 || (is (f .command) RefreshGo && not (f .ack))
 
--- Offset op seq and Sub CID are not used
-abbrev pub restIsZero : Fields → Bool
-restIsZero f = not (f .sequence) && isAbsent (f .subconnection)
+-- Offset op seq is not used
+abbrev pub sequenceFits : Fields → Bool
+sequenceFits f = not (f .sequence)
+
+-- Sub CID carries the session number (document 02, note 8); an S-Connect request has none
+abbrev pub sessionFits : Fields → Bool
+sessionFits f = isAbsent (f .subconnection) || (f .ack || not (is (f .command) Connect))
 
 -- the form rule on fields
 unfoldable pub hasForm : Fields → Bool
 hasForm f =
-    ackFits f && (applicationFits f && (busyFits f && (errorFits f && (baselineFits f && restIsZero f))))
+    ackFits f && (applicationFits f && (busyFits f && (errorFits f && (baselineFits f && (sequenceFits f && sessionFits f)))))

@@ -2,7 +2,7 @@
 ghost use mathlib.Core.Path.{_≡_};
 ghost use Prim.Native.Nat.{_≤_, _<_};
 ghost use Rattle.frame.specs.Control.{codeOf, commandOf, is, subconnectionBits, subconnectionOf, isAbsent, flag};
-ghost use Rattle.frame.specs.Control.{controlOf, waitsForStation, mayBeBusy, hasForm};
+ghost use Rattle.frame.specs.Control.{controlOf, waitsForStation, mayBeBusy, hasForm, isSame, narrowed};
 use super::Command;
 use super::Fields;
 use super::Subconnection;
@@ -74,7 +74,7 @@ fn subconnection_bits(subconnection: Subconnection) -> u32
     }
 }
 
-pub(crate) fn subconnection_of(active: bool, number: u16) -> Subconnection
+pub fn subconnection_of(active: bool, number: u16) -> Subconnection
     ensures { λ r. ⌜ r ≡ subconnectionOf active number ⌝ }
 {
     if active {
@@ -84,12 +84,29 @@ pub(crate) fn subconnection_of(active: bool, number: u16) -> Subconnection
     }
 }
 
-fn is_absent(subconnection: Subconnection) -> bool
+pub fn is_absent(subconnection: Subconnection) -> bool
     ensures { λ r. ⌜ r ≡ isAbsent subconnection ⌝ }
 {
     match subconnection {
         Subconnection::Absent => true,
         Subconnection::Number(_) => false,
+    }
+}
+
+// Whether two have the same Sub CID, or none.
+pub fn is_same(a: Subconnection, b: Subconnection) -> bool
+    ensures { λ r. ⌜ r ≡ isSame a b ⌝ }
+{
+    subconnection_bits(a) == subconnection_bits(b)
+}
+
+// Of 16 bits, as it is.
+pub fn narrowed(subconnection: Subconnection) -> Subconnection
+    ensures { λ r. ⌜ r ≡ narrowed subconnection ⌝ }
+{
+    match subconnection {
+        Subconnection::Absent => Subconnection::Absent,
+        Subconnection::Number(n) => Subconnection::Number(((n as u32) % 65536) as u16),
     }
 }
 
@@ -137,12 +154,15 @@ pub(crate) fn has_form(f: Fields) -> bool
     let refresh = is(command, Command::Refresh);
     let disconnect = is(command, Command::Disconnect);
     let go = is(command, Command::RefreshGo);
+    let connect = is(command, Command::Connect);
     let may_be_busy = may_be_busy(command);
     let ack_fits = !f.ack | !(refresh | disconnect);
     let application_fits = refresh | (f.application == f.ack);
     let busy_fits = !f.busy | (f.ack & may_be_busy);
     let error_fits = !f.error | f.ack;
     let baseline_fits = (f.baseline == 0) | (go & !f.ack);
-    let rest_is_zero = !f.sequence & is_absent(subconnection);
-    ack_fits & (application_fits & (busy_fits & (error_fits & (baseline_fits & rest_is_zero))))
+    let session_fits = is_absent(subconnection) | (f.ack | !connect);
+    ack_fits
+        & (application_fits
+            & (busy_fits & (error_fits & (baseline_fits & (!f.sequence & session_fits)))))
 }

@@ -62,7 +62,7 @@ use Rattle.gateway.proofs.Lands.{show-settles}
 abbrev pub isStop : S.Act → Bool
 isStop S.start = false
 isStop S.stop = true
-isStop S.restart = false
+isStop (S.restart number) = false
 isStop (S.setNotReady b) = false
 isStop (S.setResult body) = false
 isStop S.clearResult = false

@@ -22,9 +22,9 @@ starts t k (suc n) = startOf (fieldOf t k) ∷ starts t (suc k) n
 abbrev Lies : Data → ℕ → ℕ → ℕ → List ℕ → Type 0
 Lies d bytes by n at = (size (d .ty) ≡ bytes) × (align (d .ty) ≡ by) × (starts (d .ty) 0 n ≡ at)
 
-pub stored-lies : Lies stored 96 8 26
+pub stored-lies : Lies stored 96 8 28
     (0 ∷ 8 ∷ 12 ∷ 16 ∷ 20 ∷ 24 ∷ 28 ∷ 29 ∷ 30 ∷ 31 ∷ 32 ∷ 40 ∷ 48 ∷ 56 ∷ 64 ∷ 72 ∷ 80 ∷ 81 ∷ 82 ∷ 83 ∷ 84 ∷ 85 ∷ 86 ∷ 87
-    ∷ 88 ∷ 89 ∷ [])
+    ∷ 88 ∷ 89 ∷ 90 ∷ 92 ∷ [])
 stored-lies = (refl, refl, refl)
 
 pub record-lies : Lies rec 352 8 4 (0 ∷ 96 ∷ 196 ∷ 296 ∷ [])
@@ -33,7 +33,7 @@ record-lies = (refl, refl, refl)
 pub gateway-lies : Lies gateway 16 8 2 (0 ∷ 8 ∷ [])
 gateway-lies = (refl, refl, refl)
 
-pub call-lies : Lies call 40 8 5 (0 ∷ 16 ∷ 24 ∷ 32 ∷ 36 ∷ [])
+pub call-lies : Lies call 40 8 6 (0 ∷ 16 ∷ 24 ∷ 32 ∷ 34 ∷ 36 ∷ [])
 call-lies = (refl, refl, refl)
 
 pub told-lies : Lies told 32 8 7 (0 ∷ 8 ∷ 16 ∷ 24 ∷ 25 ∷ 26 ∷ 27 ∷ [])

@@ -26,5 +26,5 @@ kept-output s c zs out out′ t r h e =
     record { told = told c r (h .told) e; kept = kept c r (h .told); left = h .left; output = h .output }
 
 pub kept-load : (list : List ℕ) (ys : List Record) (c : Call) (zs : List Record) (t : Called) (r : Told)
-    → LoadSays list ys zs t → r ≡ toldOf t → LentLoadSays list ys c (withGateway c (t .gateway)) zs r
+    → LoadSays (c .session) list ys zs t → r ≡ toldOf t → LentLoadSays list ys c (withGateway c (t .gateway)) zs r
 kept-load list ys c zs t r h e = record { told = told c r (h .told) e; kept = kept c r (h .told); left = h .left }

@@ -125,7 +125,7 @@ keeping S.show v r = r
 not-both : (x : S.Act) → (handsWords x && handsRecord x) ≡ false
 not-both S.start = refl
 not-both S.stop = refl
-not-both S.restart = refl
+not-both (S.restart number) = refl
 not-both (S.setNotReady b) = refl
 not-both (S.setResult body) = refl
 not-both S.clearResult = refl
@@ -151,7 +151,7 @@ module _ (e : Endpoint) (t : ℕ) (f : Fields) (body : List ℕ) where
       (λ i. absurd (false≢true (ap (λ (o : Outcome). isDone (o .answer)) (sym (deliver-echo e t f body i)) ∙ d)))
       (λ i. let q = deliver-refresh e t f body i k in
       ap (λ (o : Outcome). o .endpoint .value .taken) q
-      ∙ left-taken (firstOf (refreshFaults e t (f .timestamp) (length body))) e (endedOf e)
+      ∙ left-taken (firstOf (refreshFaults e t (f .subconnection) (f .timestamp) (length body))) e (endedOf e)
       (refreshedOf e t (f .timestamp) (paddedOf body)) (ap (λ (o : Outcome). isDone (o .answer)) (sym q) ∙ d) refl)
 
 accepted-taken : (e : Endpoint) (t : ℕ) (k : S.Call) → accepts k (S.stepOf e t k .answer) ≡ true

@@ -23,7 +23,7 @@ of-answer false s x y z h k l = l
 
 pub numbers : Numbers
 numbers = record {
-  loaded = λ ws rs. of-answer (isList ws) (ltb (length rs) (countOf ws)) _ _ _ refl refl refl;
+  loaded = λ number ws rs. of-answer (isList ws) (ltb (length rs) (countOf ws)) _ _ _ refl refl refl;
   plain = λ r rs c s. ap (λ (x : Called). x .number) (s .told);
   lent = λ r rs out out′ c s. ap (λ (x : Called). x .number) (s .told);
   plain-told = λ r k k′ rs t s. ap (λ (x : Told). x .number) (s .told);

@@ -182,12 +182,13 @@ kinds = record {
 abbrev pub plan : Data
 plan = of-struct L.the-type L′.the-laws
 
-abbrev pub load-kinds : load.Types rec called plan
+abbrev pub load-kinds : load.Types rec call called plan
 load-kinds = record {
   ν = L.the-type .name;
   told = λ s. s .told;
   count = λ s. s .count;
   r-plain = rec-plain;
+  n-plain = call-plain;
   o-plain = plains .o-plain;
   s-plain = struct-plain L.the-type L′.the-laws L′.the-plain;
   r-small = tt;

@@ -115,8 +115,8 @@ sendIn d t room n value = onEntry (λ e. sendOf e t value) R.Entry d t (isShort 
 abbrev pub stopIn : Lent → ℕ → ℕ → ℕ → Result
 stopIn d t room n = onEntry (λ e. stopOf e t) R.Entry d t (isShort room) n
 
-abbrev pub restartIn : Lent → ℕ → ℕ → Result
-restartIn d t n = onEntry (λ e. restartOf e) R.Entry d t false n
+abbrev pub restartIn : Lent → ℕ → ℕ → ℕ → Result
+restartIn d t n number = onEntry (λ e. restartOf e number) R.Entry d t false n
 
 abbrev pub setNotReadyIn : Lent → ℕ → ℕ → Bool → Result
 setNotReadyIn d t n b = onEntry (λ e. setNotReadyOf e b) R.Entry d t false n
@@ -219,6 +219,6 @@ pub record OutputSays (r : Result) (records : List Record) (out out′ : List �
   pub output : out′ ≡ over (bytesOf (r .writes)) out
 
 -- loading answers no entry, and writes nothing
-pub record LoadSays (ws : List ℕ) (rs records : List Record) (c : Called) : Type 0 where
-  pub told : c ≡ calledBy (loadedOf ws rs .lent .gateway) (loadedOf ws rs .answer) false 0 0 false None
-  pub left : records ≡ loadedOf ws rs .lent .records
+pub record LoadSays (number : ℕ) (ws : List ℕ) (rs records : List Record) (c : Called) : Type 0 where
+  pub told : c ≡ calledBy (loadedOf number ws rs .lent .gateway) (loadedOf number ws rs .answer) false 0 0 false None
+  pub left : records ≡ loadedOf number ws rs .lent .records

@@ -28,7 +28,14 @@ toldOf t = record {
 
 -- all else of the call stays
 abbrev pub withGateway : Call → Gateway → Call
-withGateway c g = record { gateway = g; clock = c .clock; entry = c .entry; notready = c .notready; word = c .word }
+withGateway c g = record {
+  gateway = g;
+  clock = c .clock;
+  entry = c .entry;
+  notready = c .notready;
+  session = c .session;
+  word = c .word;
+}
 
 -- a lent call that is lent no output
 pub record LentCallSays (r : Result) (c c′ : Call) (records : List Record) (t : Told) : Type 0 where
@@ -44,8 +51,9 @@ pub record LentOutputSays (r : Result) (c c′ : Call) (records : List Record) (
   pub left : records ≡ r .lent .records
   pub output : out′ ≡ over (bytesOf (r .writes)) out
 
--- loading answers no entry, and writes nothing
+-- loading answers no entry, and writes nothing; of the call it reads the session number
 pub record LentLoadSays (ws : List ℕ) (rs : List Record) (c c′ : Call) (records : List Record) (t : Told) : Type 0 where
-  pub told : t ≡ toldOf (calledBy (loadedOf ws rs .lent .gateway) (loadedOf ws rs .answer) false 0 0 false None)
-  pub kept : c′ ≡ withGateway c (loadedOf ws rs .lent .gateway)
-  pub left : records ≡ loadedOf ws rs .lent .records
+  pub told : t ≡ toldOf (calledBy (loadedOf (c .session) ws rs .lent .gateway) (loadedOf (c .session) ws rs .answer)
+      false 0 0 false None)
+  pub kept : c′ ≡ withGateway c (loadedOf (c .session) ws rs .lent .gateway)
+  pub left : records ≡ loadedOf (c .session) ws rs .lent .records

@@ -19,9 +19,9 @@ use Rattle.gateway.specs.Tables.{Lent, lent}
 abbrev pub loadedWith : ℕ → Gateway
 loadedWith count = record { last = 0; count = count }
 
--- a connection of a list, in Close
-abbrev pub freshAt : List ℕ → ℕ → Record
-freshAt ws i = recordOf (freshOf (settingsAt ws i))
+-- a connection of a list, in Close; a slave's has this session number
+abbrev pub freshAt : ℕ → List ℕ → ℕ → Record
+freshAt number ws i = recordOf (freshOf (settingsAt ws i) number)
 
 pub record Loaded : Type 0 where
   pub answer : Answer
@@ -31,10 +31,11 @@ abbrev pub loaded : Answer → Lent → Loaded
 loaded a d = record { answer = a; lent = d }
 
 -- all timestamps and the last reading are forgotten, refused or not; refused, the records stay and the table is of no
--- connections; done, the first records are the list's connections and the others stay
-abbrev pub loadedOf : List ℕ → List Record → Loaded
-loadedOf ws rs =
+-- connections; done, the first records are the list's connections, its slaves with the session number, and the others
+-- stay
+abbrev pub loadedOf : ℕ → List ℕ → List Record → Loaded
+loadedOf number ws rs =
     cond (isList ws)
     (cond (ltb (length rs) (countOf ws)) (loaded (Dropped R.Buffer) (lent (loadedWith 0) rs))
-    (loaded Done (lent (loadedWith (countOf ws)) (filled (freshAt ws) (countOf ws) rs))))
+    (loaded Done (lent (loadedWith (countOf ws)) (filled (freshAt number ws) (countOf ws) rs))))
     (loaded (Dropped R.Settings) (lent (loadedWith 0) rs))

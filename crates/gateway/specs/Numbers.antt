@@ -21,8 +21,8 @@ numberIn r = numberOf (r .answer)
 
 pub record Numbers : Type 0 where
   -- load
-  pub loaded : (ws : List ℕ) (rs : List Record)
-      → numberOf (loadedOf ws rs .answer) ≡ cond (isList ws) (cond (ltb (length rs) (countOf ws)) 2 0) 18
+  pub loaded : (number : ℕ) (ws : List ℕ) (rs : List Record)
+      → numberOf (loadedOf number ws rs .answer) ≡ cond (isList ws) (cond (ltb (length rs) (countOf ws)) 2 0) 18
   -- start, restart, set not ready, set and clear result, set and clear record, invoke, read and write error
   pub plain : (r : Result) (rs : List Record) (c : Called) → CallSays r rs c → c .number ≡ numberIn r
   -- send, stop, show, deliver

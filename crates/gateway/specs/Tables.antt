@@ -22,12 +22,12 @@ abbrev pub lent : Gateway → List Record → Lent
 lent g rs = record { gateway = g; records = rs }
 
 -- ---- entries
--- what stands past the slice: the settings of seven zero words, in Close
+-- what stands past the slice: the settings of seven zero words, a master's, in Close
 abbrev pub noSettings : Settings
 noSettings = settingsOf 0 0 0 0 0 0 0
 
 abbrev pub blankRecord : Record
-blankRecord = recordOf (freshOf noSettings)
+blankRecord = recordOf (freshOf noSettings 0)
 
 abbrev pub recordAt : List Record → ℕ → Record
 recordAt rs n = getD rs n blankRecord

@@ -55,10 +55,11 @@ fn do_start(p: Picked) -> Moved
 }
 
 fn do_restart(p: Picked) -> Moved
-    ensures { λ r. ⌜ r ≡ plainMove p (before p false R.Entry) (plainStep (restartOf (bareOf (p .stored)))) false ⌝ }
+    ensures { λ r. ⌜ r ≡ plainMove p (before p false R.Entry)
+        (plainStep (restartOf (bareOf (p .stored)) (p .call .session))) false ⌝ }
 {
     let stored = p.stored;
-    let step = steps::lifecycle::restart(core_of(stored));
+    let step = steps::lifecycle::restart(core_of(stored), p.call.session);
     plain(before(p, false, Reason::Entry), step, false, p)
 }
 
@@ -212,9 +213,10 @@ pub fn start(rs: &mut [Record], c: Call) -> Called
     settle(rs, m)
 }
 
-// From Terminate to Close; timestamps are remembered.
+// From Terminate to Close, with the call's session number at a slave; timestamps are remembered.
 pub fn restart(rs: &mut [Record], c: Call) -> Called
-    ensures { λ r. ⌜ CallSays (restartIn (lent (c .gateway) (now (rs .entry))) (c .clock) (c .entry)) (now (rs .exit)) r ⌝ }
+    ensures { λ r. ⌜ CallSays (restartIn (lent (c .gateway) (now (rs .entry))) (c .clock) (c .entry) (c .session))
+        (now (rs .exit)) r ⌝ }
 {
     let p = pick(rs, c);
     let m = do_restart(p);

@@ -55,7 +55,7 @@ pub extern "C" fn folderpink_start(c: &mut Call, rs: &mut [Record]) -> Told
 #[no_mangle]
 pub extern "C" fn folderpink_restart(c: &mut Call, rs: &mut [Record]) -> Told
     ensures { λ r. ⌜ LentCallSays (restartIn (lent (now (c .entry) .gateway) (now (rs .entry))) (now (c .entry) .clock)
-        (now (c .entry) .entry)) (now (c .entry)) (now (c .exit)) (now (rs .exit)) r ⌝ }
+        (now (c .entry) .entry) (now (c .entry) .session)) (now (c .entry)) (now (c .exit)) (now (rs .exit)) r ⌝ }
 {
     let t = restart(rs, *c);
     c.gateway = t.gateway;
@@ -201,13 +201,13 @@ pub extern "C" fn folderpink_deliver(
     told(t)
 }
 
-// Of the lent call only the gateway changes, to that of the loaded table; nothing of it is read.
+// Of the lent call only the gateway changes, to that of the loaded table; only the session number is read.
 #[no_mangle]
 pub extern "C" fn folderpink_load(c: &mut Call, rs: &mut [Record], list: &[u32]) -> Told
     ensures { λ r. ⌜ LentLoadSays (now (list .entry)) (now (rs .entry))
         (now (c .entry)) (now (c .exit)) (now (rs .exit)) r ⌝ }
 {
-    let t = load(rs, list);
+    let t = load(rs, *c, list);
     c.gateway = t.gateway;
     told(t)
 }

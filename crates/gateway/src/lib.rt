@@ -18,14 +18,15 @@ pub struct Gateway {
     pub count: usize,
 }
 
-// What a call is asked with; notready is set_not_ready's alone, and the command word invoke's. C lends it, and each call
-// keeps the gateway in it.
+// What a call is asked with; notready is set_not_ready's alone, the session number load's and restart's, and the
+// command word invoke's. C lends it, and each call keeps the gateway in it.
 #[repr(C)]
 pub struct Call {
     pub gateway: Gateway,
     pub clock: u64,
     pub entry: usize,
     pub notready: u8,
+    pub session: u16,
     pub word: u32,
 }
 

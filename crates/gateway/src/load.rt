@@ -5,6 +5,7 @@ ghost use Prim.Native.Nat.{_%_};
 ghost use Rattle.gateway.specs.Loading.{freshAt, loadedWith};
 ghost use Rattle.gateway.specs.Calls.{LoadSays};
 ghost use Rattle.gateway.specs.Parts.{planWith, planOf};
+use super::Call;
 use super::Called;
 use super::Gateway;
 use super::Plan;
@@ -49,11 +50,11 @@ fn planned(list: &[u32], n: usize) -> Plan
     planned_with(Answer::Done, count, count)
 }
 
-// The record of a list's connection, in Close.
-fn make(list: &[u32], i: usize) -> Record
-    ensures { λ r. ⌜ r ≡ freshAt (now (list .entry)) (i % 256) ⌝ }
+// The record of a list's connection, in Close; a slave's has the call's session number.
+fn make(c: Call, list: &[u32], i: usize) -> Record
+    ensures { λ r. ⌜ r ≡ freshAt (c .session) (now (list .entry)) (i % 256) ⌝ }
 {
-    let stored = stored_of(fresh(settings::settings_at(list, (i % 256) as u8)));
+    let stored = stored_of(fresh(settings::settings_at(list, (i % 256) as u8), c.session));
     Record {
         stored: stored,
         value: [0; 100],
@@ -62,15 +63,16 @@ fn make(list: &[u32], i: usize) -> Record
     }
 }
 
-// Done with the list's connections in the first records; or 18, or 2 for a slice that is too short, and none.
-pub fn load(rs: &mut [Record], list: &[u32]) -> Called
-    ensures { λ r. ⌜ LoadSays (now (list .entry)) (now (rs .entry)) (now (rs .exit)) r ⌝ }
+// Done with the list's connections in the first records, its slaves with the call's session number; or 18, or 2 for a
+// slice that is too short, and none.
+pub fn load(rs: &mut [Record], c: Call, list: &[u32]) -> Called
+    ensures { λ r. ⌜ LoadSays (c .session) (now (list .entry)) (now (rs .entry)) (now (rs .exit)) r ⌝ }
 {
     let n = rs.len();
     let s = planned(list, n);
     let mut i = 0;
     while (i < s.count) & (i < rs.len()) {
-        rs[i] = make(list, i);
+        rs[i] = make(c, list, i);
         i += 1;
     }
     s.told

@@ -50,6 +50,8 @@ pub(crate) fn blank() -> Stored
         errorinfo: 0,
         taken: 0,
         valueage: 0,
+        session: 0,
+        hassession: 0,
     }
 }
 

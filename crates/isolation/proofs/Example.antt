@@ -2,7 +2,7 @@
 -- started, a command performed and a value shown there, with other calls in between. The premises and both runs are
 -- computed.
 use mathlib.Core.Path.{_≡_, refl, sym, _∙_}
-use mathlib.Core.Bool.{true, false}
+use mathlib.Core.Bool.{true, false, cond}
 use mathlib.Core.List.{List, [], _∷_, _++_}
 use Prim.Native.Nat.{ℕ, _+_}
 use lib.Dec.{lit<}
@@ -10,7 +10,9 @@ use lib.ListN.{replicate}
 use Rattle.crc.specs.Crc.{bitStep, bitSteps, byteStep, crcFrom, crc}
 use Rattle.frame.specs.declared.Command.{Command}
 use Rattle.frame.specs.declared.Command.the-variants as K
-use Rattle.frame.specs.Control.{controlOf, hasForm}
+use Rattle.frame.specs.declared.Subconnection.{Subconnection}
+use Rattle.frame.specs.declared.Subconnection.the-variants.{Absent, Number}
+use Rattle.frame.specs.Control.{is, controlOf, hasForm}
 use Rattle.frame.specs.Reading.{hasCheckWord, fieldsIn, readingOfCopies, readingOf}
 use Rattle.frame.specs.Writing.{headBytes, withCheckWord, twice, subBytes, frameBytes}
 use Rattle.endpoint.specs.declared.Reason.the-variants as R
@@ -53,17 +55,24 @@ lent′ = replicate 4 blankRecord
 cid : ℕ
 cid = 0x01020103
 
-loads : LoadedAlike 1 list list′ lent lent′
+-- the session number of both loadings
+number : ℕ
+number = 7
+
+loads : LoadedAlike number 1 list list′ lent lent′
 unfolding seven station list list′ lent lent′ connectionAt settingsAt isConnectionAt isNewAt areConnections isList
 loads = record { done = refl; done′ = refl; entry = lit< tt; entry′ = lit< tt; alike = refl }
 
 data-of : Command → List ℕ
 data-of k = setupData (settingsAt station 0) k
 
--- a request of the station's master, at the station
+-- a request of the station's master, at the station; S-Connect has no session number
+sessionFor : Command → Subconnection
+sessionFor k = cond (is k K.Connect) Absent (Number number)
+
 request : ℕ → Command → ℕ → Event
 request t k baseline =
-    event (5001 + t) 248 (deliver (frameBytes (sentFields k false cid t baseline) (data-of k)))
+    event (5001 + t) 248 (deliver (frameBytes (sentFields k false (sessionFor k) cid t baseline) (data-of k)))
 
 -- the station's result, and the call that sets it
 result : List ℕ
@@ -73,11 +82,13 @@ resultSet : Event
 resultSet = event 5034 0 (act (setResult result) 1)
 
 refresh : Event
-refresh = event 5061 248 (deliver (frameBytes (sentFields K.Refresh false cid 60 0) (1 ∷ 2 ∷ 3 ∷ 4 ∷ [])))
+refresh =
+    event 5061 248
+    (deliver (frameBytes (sentFields K.Refresh false (sessionFor K.Refresh) cid 60 0) (1 ∷ 2 ∷ 3 ∷ 4 ∷ [])))
 
 -- a frame of a CID that the first gateway holds at entry 0, the second at entry 2
 elsewhere : Call
-elsewhere = deliver (frameBytes (sentFields K.Refresh true 0x01100111 60 0) (9 ∷ 9 ∷ 9 ∷ 9 ∷ []))
+elsewhere = deliver (frameBytes (sentFields K.Refresh true Absent 0x01100111 60 0) (9 ∷ 9 ∷ 9 ∷ 9 ∷ []))
 
 run : List Event
 run =
@@ -114,7 +125,7 @@ run′ =
     ∷ event 5070 100 (show 1) ∷ event 5071 248 (show 1) ∷ []
 
 alike : AlikeAll 1 (connectionAt list 1) run run′
-unfolding run run′ request result resultSet refresh elsewhere data-of seven station list cid connectionAt settingsAt
+unfolding number sessionFor run run′ request result resultSet refresh elsewhere data-of seven station list cid connectionAt settingsAt
     setupData controlOf hasForm hasCheckWord fieldsIn readingOfCopies readingOf headBytes withCheckWord twice subBytes
     frameBytes bitStep bitSteps byteStep crcFrom crc
 alike =
@@ -132,7 +143,7 @@ abbrev tell : Answer → Entry → Written → Told
 tell a n w = telling None a n w
 
 repliedWith : List ℕ → ℕ → Command → Told
-repliedWith body t k = tell Done (At 1) (frame (ackFields k false false cid t) body)
+repliedWith body t k = tell Done (At 1) (frame (ackFields k false false (Number number) cid t) body)
 
 replied : ℕ → Command → Told
 replied t k = repliedWith (data-of k) t k
@@ -152,20 +163,20 @@ answers =
     ∷ tell (Dropped R.Buffer) Absent nothing
     ∷ telling (Ticks 12) Done (At 1) (value (1 ∷ 2 ∷ 3 ∷ 4 ∷ [])) ∷ []
 
-computed : toldOf 1 (connectionAt list 1) (loadedOf list lent .lent) run ≡ answers
-unfolding run request result resultSet refresh elsewhere data-of seven station list lent cid repliedWith replied
+computed : toldOf 1 (connectionAt list 1) (loadedOf number list lent .lent) run ≡ answers
+unfolding number sessionFor run request result resultSet refresh elsewhere data-of seven station list lent cid repliedWith replied
     answers toldOf endpointAt placeOf clockStep connectionAt settingsAt isConnectionAt isNewAt areConnections isList
     setupData handedOver controlOf hasForm hasCheckWord fieldsIn readingOfCopies readingOf headBytes withCheckWord
     twice subBytes frameBytes bitStep bitSteps byteStep crcFrom crc
 computed = refl
 
-computed′ : toldOf 1 (connectionAt list 1) (loadedOf list′ lent′ .lent) run′ ≡ answers
-unfolding run′ request result resultSet refresh elsewhere data-of seven station list list′ lent′ cid repliedWith
+computed′ : toldOf 1 (connectionAt list 1) (loadedOf number list′ lent′ .lent) run′ ≡ answers
+unfolding number sessionFor run′ request result resultSet refresh elsewhere data-of seven station list list′ lent′ cid repliedWith
     replied answers toldOf endpointAt placeOf clockStep connectionAt settingsAt isConnectionAt isNewAt areConnections
     isList setupData handedOver controlOf hasForm hasCheckWord fieldsIn readingOfCopies readingOf headBytes
     withCheckWord twice subBytes frameBytes bitStep bitSteps byteStep crcFrom crc
 computed′ = refl
 
 -- the same by the theorem, from the first run alone
-told-same : toldOf 1 (connectionAt list 1) (loadedOf list′ lent′ .lent) run′ ≡ answers
-told-same = sym (isolation 1 list list′ lent lent′ loads run run′ alike) ∙ computed
+told-same : toldOf 1 (connectionAt list 1) (loadedOf number list′ lent′ .lent) run′ ≡ answers
+told-same = sym (isolation number 1 list list′ lent lent′ loads run run′ alike) ∙ computed

@@ -37,10 +37,10 @@ use Rattle.gateway.specs.Tables.{Lent, recordAt, endpointAt, isEntry, isShorter
 use Rattle.gateway.specs.Tables.{afterClock}
 use Rattle.gateway.specs.Loading.{loadedOf}
 use Rattle.gateway.specs.Calls.{Entry, At, Result, refusedEntry, refusedOf, actedOf, beforeEntry, onEntry, isShort}
-use Rattle.gateway.specs.Calls.{beforeShow, showIn, shownIn, byReading}
+use Rattle.gateway.specs.Calls.{sendIn, beforeShow, showIn, shownIn, byReading, emptyCycle, deliverIn}
 use Rattle.runs.proofs.Reaching.{lends, act-in}
 use Rattle.runs.specs.Bus.{isOf}
-use Rattle.runs.specs.Steps.{Call, act, send, deliver, show, callIn}
+use Rattle.runs.specs.Steps.{Call, act, send, deliver, show, actIn, callIn}
 use Rattle.isolation.specs.Isolation.{AlikeAt, UpTo, Event, isFor, Alike, same, others, AlikeAll, none}
 use Rattle.isolation.specs.Isolation.{next, Told, told, toldOf, Isolation}
 use Rattle.isolation.proofs.Changes.{clock-last, clock-below, entry-record}
@@ -161,16 +161,30 @@ module _ (e : ℕ) (ws ws′ : List ℕ) where
         subst₂ (λ (n m : ℕ). Both (onEntry does R.Unknown d t (isShort room) n)
         (onEntry does R.Unknown d′ t (isShort room) m)) (sym p) (sym p′) (both-entry does R.Unknown (isShort room))
 
+    both-bytes : (room : ℕ) (s : List ℕ) → isOf (connectionAt ws e) (readingOf s) ≡ true
+        → Both (deliverIn d t room s) (deliverIn d′ t room s)
+    both-bytes room s h =
+        bcase (eqb (length s) 0) (λ z. absurd (false≢true (ap (isOf (connectionAt ws e)) (sym (no-frame s z)) ∙ h)))
+        (λ z. subst (λ (b : Bool). Both (cond b (emptyCycle d t (isShort room)) (byReading d t room s (readingOf s)))
+        (cond b (emptyCycle d′ t (isShort room)) (byReading d′ t room s (readingOf s)))) (sym z)
+        (both-frame room s (readingOf s) h))
+
     -- ---- so every call for it
+    both-act : (room : ℕ) (a : S.Act) → Both (actIn d t room a e) (actIn d′ t room a e)
+    both-act room a =
+        subst₂ Both (sym (act-in d t room a e)) (sym (act-in d′ t room a e))
+        (both-entry (λ x. S.actOf x t a) R.Entry (lends room a))
+
+    -- which names it, or has its CID
     both : (room : ℕ) (c : Call) → isFor e (connectionAt ws e) c ≡ true → Both (callIn d t room c) (callIn d′ t room c)
     both room (act a n) h =
-        let q = both-entry (λ x. S.actOf x t a) R.Entry (lends room a) in
-        rw (eqb-true n e h) (subst₂ Both (sym (act-in d t room a e)) (sym (act-in d′ t room a e)) q)
-    both room (send n value) h = rw (eqb-true n e h) (both-entry (λ x. sendOf x t value) R.Entry (isShort room))
-    both room (deliver s) h =
-        bcase (eqb (length s) 0) (λ z. absurd (false≢true (ap (isOf (connectionAt ws e)) (sym (no-frame s z)) ∙ h)))
-        (λ z. rw z (both-frame room s (readingOf s) h))
-    both room (show n) h = rw (eqb-true n e h) (both-show room)
+        subst (λ (k : ℕ). Both (actIn d t room a k) (actIn d′ t room a k)) (sym (eqb-true n e h)) (both-act room a)
+    both room (send n value) h =
+        subst (λ (k : ℕ). Both (sendIn d t room k value) (sendIn d′ t room k value)) (sym (eqb-true n e h))
+        (both-entry (λ x. sendOf x t value) R.Entry (isShort room))
+    both room (deliver s) h = both-bytes room s h
+    both room (show n) h =
+        subst (λ (k : ℕ). Both (showIn d t room k) (showIn d′ t room k)) (sym (eqb-true n e h)) (both-show room)
 
     -- ---- between the next calls, where these leave the same record
     still : (room room′ : ℕ) (c c′ : Call)
@@ -237,15 +251,16 @@ pub up-to : UpTo
 up-to e ws ws′ h = ap (drop (7 * e)) h
 
 pub isolation : Isolation
-isolation e ws ws′ rs rs′ L vs vs′ a =
-    let q = loaded-with ws rs (L .done) .is in
-    let q′ = loaded-with ws′ rs′ (L .done′) .is in
-    all e ws ws′ (L .entry) (L .entry′) (cid-same e ws ws′ (L .alike)) a (loadedOf ws rs .lent) (loadedOf ws′ rs′ .lent)
+isolation number e ws ws′ rs rs′ L vs vs′ a =
+    let q = loaded-with number ws rs (L .done) .is in
+    let q′ = loaded-with number ws′ rs′ (L .done′) .is in
+    all e ws ws′ (L .entry) (L .entry′) (cid-same e ws ws′ (L .alike)) a (loadedOf number ws rs .lent)
+    (loadedOf number ws′ rs′ .lent)
     (record {
       last = ap (λ (d : Lent). d .gateway .last) q ∙ sym (ap (λ (d : Lent). d .gateway .last) q′);
-      own = loaded-at ws rs (L .done) e (L .entry)
-          ∙ ap (λ (s : Settings). recordOf (freshOf s)) (settings-same e ws ws′ (L .alike))
-          ∙ sym (loaded-at ws′ rs′ (L .done′) e (L .entry′));
-      table = loaded-table ws rs (L .done);
-      table′ = loaded-table ws′ rs′ (L .done′);
+      own = loaded-at number ws rs (L .done) e (L .entry)
+          ∙ ap (λ (s : Settings). recordOf (freshOf s number)) (settings-same e ws ws′ (L .alike))
+          ∙ sym (loaded-at number ws′ rs′ (L .done′) e (L .entry′));
+      table = loaded-table number ws rs (L .done);
+      table′ = loaded-table number ws′ rs′ (L .done′);
     })

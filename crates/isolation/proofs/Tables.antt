@@ -122,38 +122,40 @@ table-kept ws d T t room c =
       cids = λ i l. call-keeps d t room c i (counted ws d T i l) (within ws d T i l) ∙ T .cids i l;
     }
 
--- ---- a list loaded with answer 0
-abbrev filledWith : List ℕ → List Record → Lent
-filledWith ws rs = lent (loadedWith (countOf ws)) (filled (freshAt ws) (countOf ws) rs)
+-- ---- a list loaded with a session number and answer 0
+abbrev filledWith : ℕ → List ℕ → List Record → Lent
+filledWith number ws rs = lent (loadedWith (countOf ws)) (filled (freshAt number ws) (countOf ws) rs)
 
-pub record LoadedWith (ws : List ℕ) (rs : List Record) : Type 0 where
-  pub is : loadedOf ws rs .lent ≡ filledWith ws rs
+pub record LoadedWith (number : ℕ) (ws : List ℕ) (rs : List Record) : Type 0 where
+  pub is : loadedOf number ws rs .lent ≡ filledWith number ws rs
   pub right : isList ws ≡ true
   pub whole : countOf ws ≤ length rs
 
-pub loaded-with : (ws : List ℕ) (rs : List Record) → loadedOf ws rs .answer ≡ Done → LoadedWith ws rs
-loaded-with ws rs h =
+pub loaded-with : (number : ℕ) (ws : List ℕ) (rs : List Record) → loadedOf number ws rs .answer ≡ Done
+    → LoadedWith number ws rs
+loaded-with number ws rs h =
     bcase (isList ws)
     (λ l. bcase (ltb (length rs) (countOf ws)) (λ q. absurd (false≢true (ap isDone (rw (l, q) at h))))
     (λ q. record { is = rw (l, q); right = l; whole = ltb-false (length rs) (countOf ws) q }))
     (λ l. absurd (false≢true (ap isDone (rw l at h))))
 
 -- its connections, in Close, each at its entry
-pub loaded-at : (ws : List ℕ) (rs : List Record) → loadedOf ws rs .answer ≡ Done → (e : ℕ) → e < countOf ws
-    → recordAt (loadedOf ws rs .lent .records) e ≡ freshAt ws e
-loaded-at ws rs h e l =
-    let w = loaded-with ws rs h in
+pub loaded-at : (number : ℕ) (ws : List ℕ) (rs : List Record) → loadedOf number ws rs .answer ≡ Done
+    → (e : ℕ) → e < countOf ws → recordAt (loadedOf number ws rs .lent .records) e ≡ freshAt number ws e
+loaded-at number ws rs h e l =
+    let w = loaded-with number ws rs h in
     ap (λ (d : Lent). recordAt (d .records) e) (w .is)
-    ∙ filled-below (freshAt ws) (countOf ws) e rs blankRecord l (let z = w .whole in omega arith)
+    ∙ filled-below (freshAt number ws) (countOf ws) e rs blankRecord l (let z = w .whole in omega arith)
 
-pub loaded-table : (ws : List ℕ) (rs : List Record) → loadedOf ws rs .answer ≡ Done → Table ws (loadedOf ws rs .lent)
+pub loaded-table : (number : ℕ) (ws : List ℕ) (rs : List Record) → loadedOf number ws rs .answer ≡ Done
+    → Table ws (loadedOf number ws rs .lent)
 unfolding connectionAt settingsAt
-loaded-table ws rs h =
-    let w = loaded-with ws rs h in
+loaded-table number ws rs h =
+    let w = loaded-with number ws rs h in
     record {
       right = are-connections ws (w .right);
       counts = ap (λ (d : Lent). d .gateway .count) (w .is);
       whole = let z = ap (λ (d : Lent). length (d .records)) (w .is) in
-          subst (λ (m : ℕ). countOf ws ≤ m) (sym (z ∙ length-filled (freshAt ws) (countOf ws) rs)) (w .whole);
-      cids = λ i l. ap (λ (r : Record). r .stored .connection) (loaded-at ws rs h i l);
+          subst (λ (m : ℕ). countOf ws ≤ m) (sym (z ∙ length-filled (freshAt number ws) (countOf ws) rs)) (w .whole);
+      cids = λ i l. ap (λ (r : Record). r .stored .connection) (loaded-at number ws rs h i l);
     }

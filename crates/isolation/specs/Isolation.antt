@@ -49,7 +49,7 @@ pub record ChangesOne (d : Lent) (t : ℕ) (entry : Entry) (after : Lent) : Type
 abbrev pub OneRecord : Type 0
 OneRecord = (d : Lent) (t room : ℕ) (c : Call) → ChangesOne d t (entryOf d c) (callIn d t room c .lent)
 
--- ---- "for two runs from loaded lists alike up to and with one entry"; a loading takes no session number yet (note 8)
+-- ---- "for two runs from loaded lists alike up to and with one entry and from one session number"
 -- the seven words of the entry e are enough, whatever other connections stand before it: no CID is twice in a list
 abbrev pub AlikeAt : ℕ → List ℕ → List ℕ → Type 0
 AlikeAt e ws ws′ = slice (7 * e) (7 * e + 7) ws ≡ slice (7 * e) (7 * e + 7) ws′
@@ -61,10 +61,10 @@ AlikeUpTo e ws ws′ = take (7 * e + 7) ws ≡ take (7 * e + 7) ws′
 abbrev pub UpTo : Type 0
 UpTo = (e : ℕ) (ws ws′ : List ℕ) → AlikeUpTo e ws ws′ → AlikeAt e ws ws′
 
--- two lists loaded with answer 0, into whatever slices; e is an entry of both
-pub record LoadedAlike (e : ℕ) (ws ws′ : List ℕ) (rs rs′ : List Record) : Type 0 where
-  pub done : loadedOf ws rs .answer ≡ Done
-  pub done′ : loadedOf ws′ rs′ .answer ≡ Done
+-- two lists loaded with one session number and answer 0, into whatever slices; e is an entry of both
+pub record LoadedAlike (number e : ℕ) (ws ws′ : List ℕ) (rs rs′ : List Record) : Type 0 where
+  pub done : loadedOf number ws rs .answer ≡ Done
+  pub done′ : loadedOf number ws′ rs′ .answer ≡ Done
   pub entry : e < countOf ws
   pub entry′ : e < countOf ws′
   pub alike : AlikeAt e ws ws′
@@ -124,6 +124,7 @@ toldOf e cid d (v ∷ vs) =
     cond (isFor e cid (v .call)) (told r ∷ rest) rest
 
 abbrev pub Isolation : Type 0
-Isolation = (e : ℕ) (ws ws′ : List ℕ) (rs rs′ : List Record) → LoadedAlike e ws ws′ rs rs′
+Isolation = (number e : ℕ) (ws ws′ : List ℕ) (rs rs′ : List Record) → LoadedAlike number e ws ws′ rs rs′
     → (vs vs′ : List Event) → AlikeAll e (connectionAt ws e) vs vs′
-    → toldOf e (connectionAt ws e) (loadedOf ws rs .lent) vs ≡ toldOf e (connectionAt ws e) (loadedOf ws′ rs′ .lent) vs′
+    → toldOf e (connectionAt ws e) (loadedOf number ws rs .lent) vs
+    ≡ toldOf e (connectionAt ws e) (loadedOf number ws′ rs′ .lent) vs′

@@ -25,13 +25,11 @@ pub mod CallDeliver
 -- A call whose input is lent too: a field of the answer is kept in it.
 pub mod Keep
 pub mod KeepOut
-pub mod KeepBytes
+pub mod KeepSlice
 pub mod KeepBoth
-pub mod KeepList
 -- The front of a local array, lent for a call by a function that takes and returns the array by value.
 pub mod Front
 pub mod ByValue
 pub mod ByValueOut
-pub mod ByValueBytes
+pub mod ByValueSlice
 pub mod ByValueBoth
-pub mod ByValueList

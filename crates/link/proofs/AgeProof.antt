@@ -1,201 +1,265 @@
--- The age theorem: the invariant holds along every list of calls, so every show has its send.
+-- The age theorem: the invariant holds along every list of calls and loadings, so every show has its send.
 use mathlib.Core.Path.{_≡_, refl, sym, ap, subst, _∙_}
 use mathlib.Core.Bool.{Bool, true, false, not, cond, false≢true}
 use mathlib.Core.List.{List, [], _∷_, _++_, append-nil}
-use mathlib.Core.Logic.{⊎-elim}
-use Prim.Native.Nat.{ℕ, _+_, _≤_, _<_}
+use mathlib.Core.Logic.{inl, ⊎-elim}
+use Prim.Native.Nat.{ℕ, _+_, _%_, _≤_, _<_}
 use native.Mathlib.Nat.{not-suc-le-zero}
 use native.Mathlib.Omega.{arith}
+use lib.Dec.{leb}
 use lib.ListN.{length}
 use borrow.Author.Tests.{leb-true}
 use mathlib.Mathlib.Data.Bool.Basic.{and-elim-left as and-left, and-elim-right as and-right}
+use Rattle.frame.specs.Control.{narrowed}
 use Rattle.endpoint.specs.declared.Settings.{Settings}
 use Rattle.endpoint.specs.Endpoint.{Endpoint}
-use Rattle.endpoint.specs.Time.{isExpired, heldAge, boundOf}
+use Rattle.endpoint.specs.Time.{isExpired, heldAge}
+use Rattle.transitions.specs.ByCall.{sessionFrom}
 use Rattle.steps.specs.Calls.{isFailSafe, shownOf}
 use Rattle.steps.proofs.Dispatch.{cond-false}
 use Rattle.steps.proofs.Keeps.{bcase}
 use Rattle.steps.specs.Steps.{Call, act, send, deliver, show, callOf}
-use Rattle.link.specs.Runs.{Clocks, momentOf, Event}
-use Rattle.link.specs.Runs.{Sent, sentAt, logged, Show, shown, showAt, Link, mayDeliver, tookBy}
-use Rattle.link.specs.Runs.{shownBy}
+use Rattle.link.specs.Runs.{Clocks, momentOf, Event, called, loaded, Sent, sentAt, logged, Grant, grant}
+use Rattle.link.specs.Runs.{Show, shown, showAt, Link, mayDeliver, tookBy, shownBy, isSlaves, afterLoad}
 use Rattle.link.specs.Runs.{afterEvent, afterAll, begun}
-use Rattle.link.specs.Fresh.{Paired, ItsSend, Fresh, AgeTheorem, Silence}
+use Rattle.link.specs.Fresh.{Paired, ItsSend, Fresh, runOf, AgeTheorem, Silence}
 use Rattle.link.proofs.Marks.{size}
 use Rattle.link.proofs.Ages.{compared, le-or-lt}
-use Rattle.link.proofs.Invariant.{limit, restM, restS, Inv}
+use Rattle.link.proofs.Invariant.{limit, restM, Master, restS, Slave, Inv}
 use Rattle.link.proofs.Kept.{later}
-use Rattle.link.proofs.Relation.{termsOf, small-of, marks, Honest, Linked}
+use Rattle.link.proofs.Relation.{termsOf, small-of, numbered, marks, Honest, Linked}
 use Rattle.link.proofs.Ends.{at-master, at-slave}
 use Rattle.link.proofs.AtMaster.{shown-m}
-use Rattle.link.proofs.AtSlave.{shown-s}
+use Rattle.link.proofs.AtSlave.{shown-s, loaded-s}
 use Rattle.link.proofs.Shown.{ShownAt, marginAt}
-use Rattle.link.proofs.Sends.{ShowsInv, grow, add, sent-by}
+use Rattle.link.proofs.Sends.{ShowsInv, reloaded, grow, add, sent-by}
 
-pub record RunInv (c : Clocks) (sm ss : Settings) (l : Link) : Type 0 where
-  pub linked : Linked c sm ss (l .latest) (l .log) (l .master) (l .slave) (l .masterTook) (l .slaveTook)
-  pub shown : ShowsInv sm ss (l .log) (l .masterTook) (l .slaveTook) (l .shows)
+-- the slave's settings of its last loading; where it was not loaded again they are those of the first, ss
+pub record RunInv (sm ss : Settings) (l : Link) : Type 0 where
+  pub settings : Settings
+  pub first : l .loads ≡ 0 → settings ≡ ss
+  pub linked : Linked (l .clocks) sm settings (l .loads) (l .given) (l .latest) (l .log) (l .master) (l .slave)
+      (l .masterTook) (l .slaveTook)
+  pub shown : ShowsInv sm ss (l .loads) (l .log) (l .masterTook) (l .slaveTook) (l .shows)
 
-module _ (c : Clocks) (sm ss : Settings) (p : Paired sm ss) where
-  -- time passes
-  linked-later : {now : ℕ} {log : List Sent} {em es : Endpoint} {tm ts : ℕ} (m : ℕ) → now ≤ m
-      → Linked c sm ss now log em es tm ts
-      → Linked c sm ss m log em es tm ts
-  linked-later m h L = record {
-    master = L .master;
-    slave = L .slave;
-    setM = L .setM;
-    setS = L .setS;
-    relM = L .relM;
-    relS = L .relS;
-    honest = L .honest;
-    inv = later (termsOf c sm ss) (small-of c sm ss p) m h (L .inv);
-  }
+-- time passes
+linked-later : {c : Clocks} {sm ss : Settings} {loads : ℕ} {given : List Grant} {now : ℕ} {log : List Sent}
+    {em es : Endpoint} {tm ts : ℕ} (m : ℕ) → now ≤ m → Linked c sm ss loads given now log em es tm ts
+    → Linked c sm ss loads given m log em es tm ts
+linked-later m h L = record {
+  master = L .master;
+  slave = L .slave;
+  paired = L .paired;
+  setM = L .setM;
+  setS = L .setS;
+  relM = L .relM;
+  relS = L .relS;
+  honest = L .honest;
+  inv = later (L .inv) m h;
+}
 
+-- a master is paired with whatever settings are a slave's, as a loaded list has them
+pairs-too : {sm ss s : Settings} → Paired sm ss → isSlaves s ≡ true → Paired sm s
+pairs-too {s = s} p h =
+    let a = and-right (s .slave) _ h in
+    let b = and-right (leb (s .interval) 65535) _ a in
+    record {
+      master = p .master;
+      slave = and-left (s .slave) _ h;
+      ticksM = p .ticksM;
+      ticksS = record {
+        interval = leb-true (s .interval) 65535 (and-left (leb (s .interval) 65535) _ a);
+        roundtrip = leb-true (s .roundtrip) 65535 (and-left (leb (s .roundtrip) 65535) _ b);
+        age = leb-true (s .age) 65535 (and-right (leb (s .roundtrip) 65535) _ b);
+      };
+    }
+
+module _ (sm ss : Settings) where
   -- ---- what a call adds to the shows
-  quiet : (log : List Sent) (tm ts : ℕ) (shows : List Show) → ShowsInv sm ss log tm ts shows
-      → ShowsInv sm ss log tm ts (shows ++ [])
-  quiet log tm ts shows v = subst (ShowsInv sm ss log tm ts) (sym (append-nil shows)) v
+  quiet : (loads : ℕ) (log : List Sent) (tm ts : ℕ) (shows : List Show) → ShowsInv sm ss loads log tm ts shows
+      → ShowsInv sm ss loads log tm ts (shows ++ [])
+  quiet loads log tm ts shows v = subst (ShowsInv sm ss loads log tm ts) (sym (append-nil shows)) v
 
-  -- a show at either end, whose value has its send
-  shows-at : (slave : Bool) (log : List Sent) (e : Endpoint) (tm ts m t : ℕ) (shows : List Show)
-      → ((i : ℕ) → i < length log → Honest sm (sentAt log i))
-      → (isExpired e t ≡ false → isFailSafe e ≡ false
-      → ShownAt (marks log) (cond slave 0 2) (cond slave ts tm) m (heldAge e t) (marginAt slave (cond slave ss sm))
+  -- at the slave's end or the master's, where the endpoint is e, has that role, and has settings of its own loading
+  module _ (slave : Bool) (loads : ℕ) (log : List Sent) (e : Endpoint) (tm ts m t : ℕ) (shows : List Show)
+      (role : e .settings .slave ≡ slave)
+      (own : (slave ≡ true → loads ≡ 0) → e .settings ≡ cond slave ss sm)
+      (honest : (i : ℕ) → i < length log → Honest sm (sentAt log i))
+      (its : isExpired e t ≡ false → isFailSafe e ≡ false
+      → ShownAt (marks log) (cond slave 0 2) (cond slave ts tm) m (heldAge e t) (marginAt slave (e .settings))
       (shownOf e))
-      → ShowsInv sm ss log tm ts shows
-      → ShowsInv sm ss log tm ts
-      (shows ++ shownBy slave m t (cond slave ts tm) (length log) show (callOf e t show .endpoint))
-  shows-at slave log e tm ts m t shows honest its v =
-      let x = shown slave m (shownOf e) (heldAge e t) (cond slave ts tm) (length log) in
-      bcase (isExpired e t) (λ x. rw x (quiet log tm ts shows v))
-      (λ n. rw n (bcase (isFailSafe e) (λ f. rw f (quiet log tm ts shows v))
-      (λ f. subst (λ (y : List Show). ShowsInv sm ss log tm ts (shows ++ y))
-      (sym (cond-false (isFailSafe e) [] (x ∷ []) f))
-      (add sm ss log tm ts shows x
-      (sent-by sm ss p log slave (cond slave ts tm) m (heldAge e t) (shownOf e) honest (its n f)) refl v))))
+      (v : ShowsInv sm ss loads log tm ts shows) where
+    -- a show whose value has its send
+    shows-at : ShowsInv sm ss loads log tm ts
+        (shows ++ shownBy slave m t (cond slave ts tm) (length log) show (callOf e t show .endpoint))
+    shows-at =
+        let x = shown slave (e .settings) m (shownOf e) (heldAge e t) (cond slave ts tm) (length log) in
+        bcase (isExpired e t) (λ x. rw x (quiet loads log tm ts shows v))
+        (λ n. rw n (bcase (isFailSafe e) (λ f. rw f (quiet loads log tm ts shows v))
+        (λ f. subst (λ (y : List Show). ShowsInv sm ss loads log tm ts (shows ++ y))
+        (sym (cond-false (isFailSafe e) [] (x ∷ []) f))
+        (add sm ss loads log tm ts shows x
+        (sent-by sm (e .settings) log slave (cond slave ts tm) m (heldAge e t) (shownOf e) role honest (its n f)) own
+        refl v))))
 
-  -- what a call adds to the shows, whatever the call; what it writes and takes comes after
-  adds : (slave : Bool) (log : List Sent) (e : Endpoint) (tm ts m t : ℕ) (shows : List Show) (call : Call)
-      → ((i : ℕ) → i < length log → Honest sm (sentAt log i))
-      → (isExpired e t ≡ false → isFailSafe e ≡ false
-      → ShownAt (marks log) (cond slave 0 2) (cond slave ts tm) m (heldAge e t) (marginAt slave (cond slave ss sm))
-      (shownOf e))
-      → ShowsInv sm ss log tm ts shows
-      → ShowsInv sm ss log tm ts
-      (shows ++ shownBy slave m t (cond slave ts tm) (length log) call (callOf e t call .endpoint))
-  adds slave log e tm ts m t shows (act a) honest its v = quiet log tm ts shows v
-  adds slave log e tm ts m t shows (send value) honest its v = quiet log tm ts shows v
-  adds slave log e tm ts m t shows (deliver f body) honest its v = quiet log tm ts shows v
-  adds slave log e tm ts m t shows show honest its v = shows-at slave log e tm ts m t shows honest its v
+    -- whatever the call; what it writes and takes comes after
+    adds : (call : Call) → ShowsInv sm ss loads log tm ts
+        (shows ++ shownBy slave m t (cond slave ts tm) (length log) call (callOf e t call .endpoint))
+    adds (act a) = quiet loads log tm ts shows v
+    adds (send value) = quiet loads log tm ts shows v
+    adds (deliver f body) = quiet loads log tm ts shows v
+    adds show = shows-at
 
   -- ---- one event
-  step : (l : Link) (slave : Bool) (t : ℕ) (call : Call) → mayDeliver (l .log) call ≡ true
-      → l .latest ≤ momentOf c slave t → t ≤ limit
-      → RunInv c sm ss l → RunInv c sm ss (afterEvent c l (record { slave = slave; clock = t; call = call }))
+  step : (l : Link) (slave : Bool) (t : ℕ) (call : Call) → mayDeliver (l .given) (l .log) call ≡ true
+      → l .latest ≤ momentOf (l .clocks) slave t → t ≤ limit → RunInv sm ss l
+      → RunInv sm ss (afterEvent l (called slave t call))
   step l false t call h k lim v =
-      let L = linked-later (t + c .master) k (v .linked) in
-      let A = at-master c sm ss p t lim L call h in
+      let m = t + l .clocks .master in
+      let o = callOf (l .master) t call in
+      let L = linked-later m k (v .linked) in
+      let A = at-master t lim L call h in
       record {
+        settings = v .settings;
+        first = v .first;
         linked = A .0;
-        shown = grow sm ss (l .log) (logged false (t + c .master) call (callOf (l .master) t call .writes))
-            (l .masterTook) (l .slaveTook)
-            (tookBy (l .log) call (callOf (l .master) t call .answer) (l .masterTook)) (l .slaveTook)
-            (l .shows ++ shownBy false (t + c .master) t (l .masterTook) (length (l .log)) call
-            (callOf (l .master) t call .endpoint)) (A .1) (omega arith)
-            (adds false (l .log) (l .master) (l .masterTook) (l .slaveTook) (t + c .master) t (l .shows) call
-            (L .honest)
-            (shown-m c sm ss p t lim L) (v .shown));
+        shown = grow sm ss (l .loads) (l .log) (logged false m (l .loads) call (o .writes)) (l .masterTook)
+            (l .slaveTook) (tookBy (l .log) call (o .answer) (l .masterTook)) (l .slaveTook)
+            (l .shows ++ shownBy false m t (l .masterTook) (length (l .log)) call (o .endpoint)) (A .1) (omega arith)
+            (adds false (l .loads) (l .log) (l .master) (l .masterTook) (l .slaveTook) m t (l .shows)
+            (ap (λ (s : Settings). s .slave) (L .setM) ∙ L .paired .master) (λ f. L .setM) (L .honest)
+            (shown-m t lim L) (v .shown) call);
       }
   step l true t call h k lim v =
-      let L = linked-later (t + c .slave) k (v .linked) in
-      let A = at-slave c sm ss p t lim L call h in
+      let m = t + l .clocks .slave in
+      let o = callOf (l .slave) t call in
+      let L = linked-later m k (v .linked) in
+      let A = at-slave t lim L call h in
       record {
+        settings = v .settings;
+        first = v .first;
         linked = A .0;
-        shown = grow sm ss (l .log) (logged true (t + c .slave) call (callOf (l .slave) t call .writes))
-            (l .masterTook) (l .slaveTook)
-            (l .masterTook) (tookBy (l .log) call (callOf (l .slave) t call .answer) (l .slaveTook))
-            (l .shows ++ shownBy true (t + c .slave) t (l .slaveTook) (length (l .log)) call
-            (callOf (l .slave) t call .endpoint)) (omega arith) (A .1)
-            (adds true (l .log) (l .slave) (l .masterTook) (l .slaveTook) (t + c .slave) t (l .shows) call (L .honest)
-            (shown-s c sm ss p t lim L) (v .shown));
+        shown = grow sm ss (l .loads) (l .log) (logged true m (l .loads) call (o .writes)) (l .masterTook)
+            (l .slaveTook) (l .masterTook) (tookBy (l .log) call (o .answer) (l .slaveTook))
+            (l .shows ++ shownBy true m t (l .slaveTook) (length (l .log)) call (o .endpoint)) (omega arith) (A .1)
+            (adds true (l .loads) (l .log) (l .slave) (l .masterTook) (l .slaveTook) m t (l .shows)
+            (ap (λ (s : Settings). s .slave) (L .setS) ∙ L .paired .slave) (λ f. L .setS ∙ v .first (f refl))
+            (L .honest) (shown-s t lim L) (v .shown) call);
+      }
+
+  reload : (l : Link) (s : Settings) (number constant : ℕ) → isSlaves s ≡ true → RunInv sm ss l
+      → RunInv sm ss (afterLoad l s number constant)
+  reload l s number constant h v =
+      record {
+        settings = s;
+        first = λ e. absurd (omega arith);
+        linked = loaded-s (v .linked) s (pairs-too (v .linked .paired) h) number constant;
+        shown = reloaded (v .shown);
       }
 
   -- ---- every list: what is allowed at the end was allowed all along
-  kept-allowed : (l : Link) (vs : List Event) → afterAll c l vs .allowed ≡ true → l .allowed ≡ true
-  kept-allowed l [] h = h
-  kept-allowed l (v ∷ vs) h = and-left (l .allowed) _ (kept-allowed (afterEvent c l v) vs h)
+  allowed-before : (l : Link) (v : Event) → afterEvent l v .allowed ≡ true → l .allowed ≡ true
+  allowed-before l (called slave t call) h = and-left (l .allowed) _ h
+  allowed-before l (loaded s number constant) h = and-left (l .allowed) _ h
 
-  pub along : (l : Link) (vs : List Event) → afterAll c l vs .allowed ≡ true → RunInv c sm ss l
-      → RunInv c sm ss (afterAll c l vs)
-  along l [] h r = r
-  along l (v ∷ vs) h r =
-      let m = momentOf c (v .slave) (v .clock) in
-      let a = and-right (l .allowed) _ (kept-allowed (afterEvent c l v) vs h) in
-      let b = and-right (mayDeliver (l .log) (v .call)) _ a in
+  kept-allowed : (l : Link) (vs : List Event) → afterAll l vs .allowed ≡ true → l .allowed ≡ true
+  kept-allowed l [] h = h
+  kept-allowed l (v ∷ vs) h = allowed-before l v (kept-allowed (afterEvent l v) vs h)
+
+  event : (l : Link) (v : Event) → afterEvent l v .allowed ≡ true → RunInv sm ss l → RunInv sm ss (afterEvent l v)
+  event l (called slave t call) h r =
+      let m = momentOf (l .clocks) slave t in
+      let a = and-right (l .allowed) _ h in
+      let b = and-right (mayDeliver (l .given) (l .log) call) _ a in
       let rises : l .latest ≤ m = ⊎-elim (λ p. p)
       (λ (p : m < l .latest). absurd (false≢true (simp compared at b))) (le-or-lt (l .latest) m) in
-      along (afterEvent c l v) vs h
-      (step l (v .slave) (v .clock) (v .call) (and-left (mayDeliver (l .log) (v .call)) _ a) rises
-      (omega (arith, leb-true (v .clock) _ (simp compared at b))) r)
+      step l slave t call (and-left (mayDeliver (l .given) (l .log) call) _ a) rises
+      (omega (arith, leb-true t _ (simp compared at b))) r
+  event l (loaded s number constant) h r = reload l s number constant (and-right (l .allowed) _ h) r
+
+  pub along : (l : Link) (vs : List Event) → afterAll l vs .allowed ≡ true → RunInv sm ss l
+      → RunInv sm ss (afterAll l vs)
+  along l [] h r = r
+  along l (v ∷ vs) h r = along (afterEvent l v) vs h (event l v (kept-allowed (afterEvent l v) vs h) r)
 
   -- ---- two endpoints just loaded
-  nothing-yet : Inv (termsOf c sm ss) 0 (marks []) (record { nextOut = 0; nextIn = 0; held = 0; phase = restM })
-      (record { nextOut = 0; nextIn = 0; held = 0; phase = restS })
-  unfolding marks size
-  nothing-yet = record {
-    log = record {
-      stamped = λ i h. absurd (not-suc-le-zero h);
-      rising = λ i j h k. absurd (not-suc-le-zero k);
-      go =
-          λ i h. absurd (not-suc-le-zero h);
-    };
-    master = record { out = λ i h. absurd (not-suc-le-zero h); held = tt; phase = tt };
-    slave = record {
-      replies = λ i h. absurd (not-suc-le-zero h);
-      sent = λ i h. absurd (not-suc-le-zero h);
-      seen = λ k e. absurd (omega arith);
-      held = tt;
-      phase = tt;
-    };
-  }
+  module _ (p : Paired sm ss) (number : ℕ) (c : Clocks) where
+    abbrev first-m : Master
+    first-m = record { session = 0; floor = 0; nextOut = 0; nextIn = 0; held = 0; phase = restM }
 
-  pub at-first : RunInv c sm ss (begun sm ss)
-  at-first = record {
-    linked = record {
-      master = record { nextOut = 0; nextIn = 0; held = 0; phase = restM };
-      slave = record { nextOut = 0; nextIn = 0; held = 0; phase = restS };
-      setM = refl;
-      setS = refl;
-      relM = record {
-        nextOut = refl;
-        nextIn = refl;
-        held = refl;
-        live = λ h. absurd (false≢true h);
-        pend = λ h s e. absurd (false≢true h);
-        ready = λ h e. absurd (false≢true h);
+    abbrev first-s : Slave
+    first-s = record { number = number % 65536; epoch = 0; nextOut = 0; nextIn = 0; held = 0; phase = restS }
+
+    nothing-yet : Inv (termsOf (c .master) sm) (termsOf (c .slave) ss) 0 (grant number 0 ∷ []) (marks []) first-m
+        first-s
+    unfolding marks size
+    nothing-yet = record {
+      smallM = small-of (c .master) sm (p .ticksM);
+      smallS = small-of (c .slave) ss (p .ticksS);
+      log = record {
+        stamped = λ i h. absurd (not-suc-le-zero h);
+        rising = λ i j h k. absurd (not-suc-le-zero k);
+        go = λ i h. absurd (not-suc-le-zero h);
+        carries = λ i h. absurd (not-suc-le-zero h);
       };
-      relS = record {
-        nextOut = refl;
-        nextIn = refl;
-        held = refl;
-        live = λ h. absurd (false≢true h);
-        ready = λ h. absurd (false≢true h);
-        agreed = λ h. absurd (false≢true h);
+      master = record {
+        out = λ i h. absurd (not-suc-le-zero h);
+        given = λ n e. absurd (omega arith);
+        held = tt;
+        phase = tt;
       };
-      honest = λ i h. absurd (not-suc-le-zero h);
-      inv = nothing-yet;
-    };
-    shown = record {
-      its = λ i h. absurd (not-suc-le-zero h);
-      below = λ i h. absurd (not-suc-le-zero h);
-      order = λ i j
-          h k. absurd (not-suc-le-zero k);
-    };
-  }
+      slave = record {
+        epochs = λ i h. absurd (not-suc-le-zero h);
+        given = inl (refl, refl);
+        replies = λ i h. absurd (not-suc-le-zero h);
+        sent = λ i h. absurd (not-suc-le-zero h);
+        held = tt;
+        phase = tt;
+      };
+    }
+
+    pub at-first : RunInv sm ss (begun sm ss number c)
+    at-first = record {
+      settings = ss;
+      first = λ e. refl;
+      linked = record {
+        master = first-m;
+        slave = first-s;
+        paired = p;
+        setM = refl;
+        setS = refl;
+        relM = record {
+          session = ap (λ (b : Bool). numbered (narrowed (sessionFrom b number))) (p .master);
+          nextOut = refl;
+          nextIn = refl;
+          held = refl;
+          live = λ h. absurd (false≢true h);
+          pend = λ h s e. absurd (false≢true h);
+          ready = λ h e. absurd (false≢true h);
+        };
+        relS = record {
+          number = ap (λ (b : Bool). narrowed (sessionFrom b number)) (p .slave);
+          epoch = refl;
+          nextOut = refl;
+          nextIn = refl;
+          held = refl;
+          live = λ h. absurd (false≢true h);
+          ready = λ h. absurd (false≢true h);
+          agreed = λ h. absurd (false≢true h);
+        };
+        honest = λ i h. absurd (not-suc-le-zero h);
+        inv = nothing-yet;
+      };
+      shown = record {
+        its = λ i h. absurd (not-suc-le-zero h);
+        own = λ i h. absurd (not-suc-le-zero h);
+        below = λ i h. absurd (not-suc-le-zero h);
+        order = λ i j h k. absurd (not-suc-le-zero k);
+      };
+    }
 
   -- ---- what the invariant says of the shows
-  pub fresh-of : (l : Link) → RunInv c sm ss l → Fresh sm ss l
+  pub fresh-of : (l : Link) → RunInv sm ss l → Fresh sm ss l
   fresh-of l r = record {
     there = λ i h. let s = r .shown .its i h in let a = s .sent in let b = s .early in let n = s .known in
         (omega arith, omega arith, omega arith);
@@ -203,22 +267,21 @@ module _ (c : Clocks) (sm ss : Settings) (p : Paired sm ss) where
         let s = r .shown .its i h in
         let a = s .sent in
         let q : s .place ≡ k = omega arith in
-        subst (λ (n : ℕ). ItsSend (cond (showAt (l .shows) i .slave) ss sm) (showAt (l .shows) i)
-        (sentAt (l .log) n)) q (s .fits);
+        subst (λ (n : ℕ). ItsSend (showAt (l .shows) i) (sentAt (l .log) n)) q (s .fits);
     in-order = r .shown .order;
+    own = r .shown .own;
   }
 
 pub age-theorem : AgeTheorem
-age-theorem sm ss c vs p h = fresh-of c sm ss p (afterAll c (begun sm ss) vs)
-    (along c sm ss p (begun sm ss) vs h (at-first c sm ss p))
+age-theorem sm ss number c vs p h = fresh-of sm ss (runOf sm ss number c vs)
+    (along sm ss (begun sm ss number c) vs h (at-first sm ss p number c))
 
 pub silence : Silence
-silence sm ss c vs slave last p h before i k e =
-    let r = along c sm ss p (begun sm ss) vs h (at-first c sm ss p) in
+silence sm ss number c vs slave last p h before i k e =
+    let r = along sm ss (begun sm ss number c) vs h (at-first sm ss p number c) in
     let s = r .shown .its i k in
     let f = s .fits in
     let m = before (s .place) (let a = s .early in let b = s .known in omega arith) (f .other ∙ ap not e)
     (f .refresh) in
-    let b = ap (λ (b : Bool). boundOf (cond b ss sm)) e in
     let y = f .aged .young in
     omega arith

@@ -8,8 +8,10 @@ use native.Mathlib.Omega.{arith}
 use borrow.Author.Tests.{eqb-true}
 use Rattle.frame.specs.declared.Command.{Command}
 use Rattle.frame.specs.declared.Command.the-variants as K
+use Rattle.frame.specs.declared.Subconnection.{Subconnection}
+use Rattle.frame.specs.declared.Subconnection.the-variants.{Absent}
 use Rattle.frame.specs.declared.Fields.{Fields}
-use Rattle.frame.specs.Control.{is, codeOf, mayBeBusy}
+use Rattle.frame.specs.Control.{is, codeOf, mayBeBusy, narrowed}
 use Rattle.endpoint.specs.declared.Settings.{Settings}
 use Rattle.endpoint.specs.declared.State.{State}
 use Rattle.endpoint.specs.declared.State.the-variants.{Close, Starting, EstablishPending, Establish, ParamVerify}
@@ -22,128 +24,160 @@ use Rattle.endpoint.specs.declared.Station.{Station}
 use Rattle.endpoint.specs.Endpoint.{Endpoint, Words}
 use Rattle.endpoint.specs.Table.{isState, isSetup, nextOf, stateTo, requestOf}
 use Rattle.endpoint.specs.Due.{isWaiting, queuedIn, isCommandDue, requestDue}
-use Rattle.endpoint.specs.Time.{span, minus, isExpired, endedOf, allowanceOf, countedAge, heldAge, timeOf, ageOf}
-use Rattle.transitions.specs.ByCall.{startedOf, restartedOf, requestedOf, refreshSentOf, stoppedOf}
-use Rattle.transitions.specs.ByFrame.{refreshedOf, measuredBy, confirmedOf, dueAgainOf, performedOf}
+use Rattle.endpoint.specs.Time.{span, minus, isExpired, isAbove, endedOf, allowanceOf, countedAge, heldAge, timeOf}
+use Rattle.endpoint.specs.Time.{ageOf}
+use Rattle.transitions.specs.ByCall.{sessionFrom, startedOf, restartedOf, requestedOf, refreshSentOf, stoppedOf}
+use Rattle.transitions.specs.ByFrame.{refreshedOf, measuredBy, sessionBy, confirmedOf, dueAgainOf, performedOf}
 use Rattle.steps.specs.Frames.{setupData, dataOf, dueData, baselineOf, requestFields, refreshFields, disconnectFields}
 use Rattle.steps.specs.Calls.{isFailSafe, shownOf}
-use Rattle.steps.specs.Frames.{paddedOf}
+use Rattle.steps.specs.Frames.{paddedOf, sessionOf, sessionWith}
 use Rattle.steps.specs.Laws.{RequestSent, RefreshSent, StopDone, ReplyTaken, RefreshTaken}
 use Rattle.steps.proofs.Dispatch.{cond-false}
 use Rattle.steps.proofs.Keeps.{bcase}
-use Rattle.link.specs.Runs.{Clocks, Sent}
-use Rattle.link.specs.Fresh.{Paired}
+use Rattle.link.specs.Runs.{Clocks, Sent, Grant}
 use Rattle.link.proofs.Marks.{Mark, mark, at, snoc, Has}
-use Rattle.link.proofs.Invariant.{limit, Terms, Small, MPhase, restM, asked, got, liveM, Master, Inv, MPh}
-use Rattle.link.proofs.Invariant.{GoOf, marginM}
-use Rattle.link.proofs.Kept.{m-phase, m-got, m-writes, m-goes, m-takes, held-rises}
-use Rattle.link.proofs.Relation.{termsOf, small-of, whoOf, markOf, marks, topOf, above-top, RelM, Honest, Linked}
-use Rattle.link.proofs.Relation.{setup-timer, refresh-timer, master-time, not-late, not-ahead, toldOf}
+use Rattle.link.proofs.Invariant.{limit, Terms, Master, MPhase, restM, asked, got, liveM, Inv, MPh, GoOf}
+use Rattle.link.proofs.Invariant.{marginM, phasedM, wroteM, connectedM, restartedM, frameM, HeldByM}
+use Rattle.link.proofs.Kept.{m-phase, m-restarts, m-connects, m-got, m-writes, m-asks, m-goes, m-takes}
+use Rattle.link.proofs.Kept.{held-rises-m}
+use Rattle.link.proofs.Relation.{termsOf, numbered, whoOf, markOf, marks, topOf, above-top, RelM}
+use Rattle.link.proofs.Relation.{Honest, Linked, setup-timer, refresh-timer, master-time, not-late, not-ahead}
+use Rattle.link.proofs.Relation.{toldOf, narrowed-again}
 use Rattle.link.proofs.Ages.{Young, young-more}
-use Rattle.link.proofs.Entries.{marks-snoc, honest-snoc, is-eq, FoundAt, in-log, the-mark, marked-code}
-use Rattle.link.proofs.Entries.{marked-stamp, marked-body}
+use Rattle.link.proofs.Entries.{marks-snoc, honest-snoc, is-eq, session-eq, Handed, in-log, the-mark}
+use Rattle.link.proofs.Entries.{marked-code, marked-stamp, marked-body, marked-session, marked-travels}
 use Rattle.link.proofs.Shown.{ShownAt, marginAt, in-refresh, held-shown}
 use Rattle.link.proofs.Codes.{go-due, go-baseline, due-not-refresh, setup-not-refresh, refresh-not-setup}
 use Rattle.link.proofs.Codes.{pending-setup, busy-due, command-due}
 
-module _ (c : Clocks) (sm ss : Settings) (p : Paired sm ss) {l : List Sent} {em es : Endpoint} {tm ts : ℕ} (t : ℕ)
-    (lim : t ≤ limit)
-    (L : Linked c sm ss (t + c .master) l em es tm ts) where
-  T : Terms
-  T = termsOf c sm ss
+module _ {c : Clocks} {sm ss : Settings} {loads : ℕ} {given : List Grant} {l : List Sent} {em es : Endpoint}
+    {tm ts : ℕ} (t : ℕ) (lim : t ≤ limit) (L : Linked c sm ss loads given (t + c .master) l em es tm ts) where
+  -- the terms of either end
+  abbrev TM : Terms
+  TM = termsOf (c .master) sm
 
-  ok : Small (termsOf c sm ss)
-  ok = small-of c sm ss p
+  abbrev TS : Terms
+  TS = termsOf (c .slave) ss
+
+  -- what is kept, of the log, the endpoint and the place last taken
+  abbrev AtM : List Sent → Endpoint → ℕ → Type 0
+  AtM x e n = Linked c sm ss loads given (t + c .master) x e es n ts
+
+  abbrev Phased : ℕ → MPhase → Type 0
+  Phased n f = MPh TM (t + c .master) (marks l) n (L .master .held) f
 
   role : em .settings .slave ≡ false
-  role = ap (λ (s : Settings). s .slave) (L .setM) ∙ p .master
+  role = ap (λ (s : Settings). s .slave) (L .setM) ∙ L .paired .master
 
   time : timeOf em t ≡ t
   time = master-time em t role lim
 
-  -- an endpoint that waits for nothing
-  rest : (e : Endpoint) → e .settings ≡ sm → topOf (e .timestamps .sent) ≡ topOf (em .timestamps .sent)
+  -- the endpoint becomes another, and nothing is written
+  become : (e : Endpoint) {n : ℕ} {M : Master} → e .settings ≡ sm → RelM e n M
+      → Inv TM TS (t + c .master) given (marks l) M (L .slave) → AtM l e n
+  become e {n} {M} s r v = record {
+    master = M;
+    slave = L .slave;
+    paired = L .paired;
+    setM = s;
+    setS = L .setS;
+    relM = r;
+    relS = L .relS;
+    honest = L .honest;
+    inv = v;
+  }
+
+  -- one that waits for nothing
+  idle : (e : Endpoint) (M : Master) → numbered (sessionOf e) ≡ M .session → topOf (e .timestamps .sent) ≡ M .nextOut
+      → topOf (e .timestamps .accepted) ≡ M .nextIn → tm ≡ M .held → isState (e .state) Refresh ≡ false
+      → (isSetup (e .state) ≡ true → e .setup .pending ≡ Nothing) → isState (e .state) RefreshPending ≡ false
+      → RelM e tm M
+  idle e M m o i h r n k = record {
+    session = m;
+    nextOut = o;
+    nextIn = i;
+    held = h;
+    live = λ h. absurd (true≢false (sym h ∙ r));
+    pend = λ h x d. let z : _≡_ {A = ℕ} 0 1 = let y = n h in cc in absurd (omega arith);
+    ready = λ h d. absurd (true≢false (sym h ∙ k));
+  }
+
+  -- that keeps its session number, and what it remembers of timestamps
+  rest : (e : Endpoint) → e .settings ≡ sm → numbered (sessionOf e) ≡ numbered (sessionOf em)
+      → topOf (e .timestamps .sent) ≡ topOf (em .timestamps .sent)
       → topOf (e .timestamps .accepted) ≡ topOf (em .timestamps .accepted) → isState (e .state) Refresh ≡ false
       → (isSetup (e .state) ≡ true → e .setup .pending ≡ Nothing) → isState (e .state) RefreshPending ≡ false
-      → Linked c sm ss (t + c .master) l e es tm ts
-  rest e s o i r n k =
+      → AtM l e tm
+  rest e s m o i r n k =
       let q = L .relM in
-      record {
-        master = record {
-          nextOut = L .master .nextOut;
-          nextIn = L .master .nextIn;
-          held = L .master .held;
-          phase =
-              restM;
-        };
-        slave = L .slave;
-        setM = s;
-        setS = L .setS;
-        relM = record {
-          nextOut = o ∙ q .nextOut;
-          nextIn = i ∙ q .nextIn;
-          held = q .held;
-          live = λ h. absurd (true≢false (sym h ∙ r));
-          pend = λ h x d. let z : _≡_ {A = ℕ} 0 1 = let y = n h in cc in absurd (omega arith);
-          ready = λ h d. absurd (true≢false (sym h ∙ k));
-        };
-        relS = L .relS;
-        honest = L .honest;
-        inv = m-phase (termsOf c sm ss) (small-of c sm ss p) restM tt (L .inv);
-      }
+      become e s
+      (idle e (phasedM (L .master) restM) (m ∙ q .session) (o ∙ q .nextOut) (i ∙ q .nextIn) (q .held) r n k)
+      (m-phase (L .inv) restM tt)
 
-  pub ended-m : Linked c sm ss (t + c .master) l (endedOf em) es tm ts
-  ended-m = rest (endedOf em) (L .setM) refl refl refl (λ h. absurd (false≢true h)) refl
+  pub ended-m : AtM l (endedOf em) tm
+  ended-m = rest (endedOf em) (L .setM) refl refl refl refl (λ h. absurd (false≢true h)) refl
 
-  pub started-m : Linked c sm ss (t + c .master) l (startedOf em t) es tm ts
-  started-m = rest (startedOf em t) (L .setM) refl refl refl (λ h. refl) refl
+  pub started-m : AtM l (startedOf em t) tm
+  started-m = rest (startedOf em t) (L .setM) refl refl refl refl (λ h. refl) refl
 
-  pub restarted-m : Linked c sm ss (t + c .master) l (restartedOf em) es tm ts
-  restarted-m = rest (restartedOf em) (L .setM) refl refl refl (λ h. absurd (false≢true h)) refl
+  -- a restart: the session number is forgotten
+  pub restarted-m : (number : ℕ) → AtM l (restartedOf em number) tm
+  restarted-m number =
+      let q = L .relM in
+      become (restartedOf em number) (L .setM)
+      (idle (restartedOf em number) (restartedM (L .master))
+      (ap (λ (b : Bool). numbered (narrowed (sessionFrom b number))) role) (q .nextOut) (q .nextIn) (q .held)
+      refl (λ h. absurd (false≢true h)) refl)
+      (m-restarts (L .inv))
 
-  pub told-m : (s : Station) (q : Queue) (w x : Words) → Linked c sm ss (t + c .master) l (toldOf em s q w x) es tm ts
+  pub told-m : (s : Station) (q : Queue) (w x : Words) → AtM l (toldOf em s q w x) tm
   told-m s q w x =
       let r = L .relM in
-      record {
-        master = L .master;
-        slave = L .slave;
-        setM = L .setM;
-        setS = L .setS;
-        relM = record {
-          nextOut = r .nextOut;
-          nextIn = r .nextIn;
-          held = r .held;
-          live = λ h. let v = r .live h in record { value = v .value; phase = v .phase; holds = v .holds };
-          pend = λ h y d. let a = r .pend h y d in record { since = a .since; phase = a .phase };
-          ready = λ h d. let g = r .ready h d in record { phase = g .phase; since = g .since };
-        };
-        relS = L .relS;
-        honest = L .honest;
-        inv = L .inv;
-      }
+      become (toldOf em s q w x) (L .setM)
+      (record {
+        session = r .session;
+        nextOut = r .nextOut;
+        nextIn = r .nextIn;
+        held = r .held;
+        live = λ h. let v = r .live h in record { value = v .value; phase = v .phase; holds = v .holds };
+        pend = λ h y d. let a = r .pend h y d in record { since = a .since; phase = a .phase };
+        ready = λ h d. let g = r .ready h d in record { phase = g .phase; since = g .since };
+      })
+      (L .inv)
 
-  -- a frame is written; the endpoint is then another
-  wrote : (e : Endpoint) (w : Sent) (code baseline : ℕ) (body : List ℕ) (phase : MPhase) → e .settings ≡ sm
-      → markOf w ≡ mark 0 code t baseline (t + c .master) body → Honest sm w → topOf (em .timestamps .sent) ≤ t
-      → (code ≡ 254 → Has (GoOf (termsOf c sm ss) (marks l) (mark 0 code t baseline (t + c .master) body)) (marks l))
-      → MPh (termsOf c sm ss) (t + c .master) (marks l) (suc t) (L .master .held) phase
-      → RelM e tm (record { nextOut = suc t; nextIn = L .master .nextIn; held = L .master .held; phase = phase })
-      → Linked c sm ss (t + c .master) (l ++ (w ∷ [])) e es tm ts
-  wrote e w code baseline body phase s m h a g ph r =
-      let M : Master = record { nextOut = suc t; nextIn = L .master .nextIn; held = L .master .held; phase = phase } in
-      record {
-        master = M;
-        slave = L .slave;
-        setM = s;
-        setS = L .setS;
-        relM = r;
-        relS = L .relS;
-        honest = honest-snoc sm l w (L .honest) h;
-        inv = subst (λ (x : List Mark). Inv (termsOf c sm ss) (t + c .master) x M (L .slave))
-            (sym (marks-snoc l w ∙ ap (snoc (marks l)) m))
-            (m-writes (termsOf c sm ss) (small-of c sm ss p) t code baseline body phase refl (omega arith)
-            (let o = L .relM .nextOut in omega arith) g ph (L .inv));
-      }
+  -- the mark of a frame that is written, of whatever session
+  abbrev written : ℕ → ℕ → List ℕ → Subconnection → Mark
+  written code baseline body n = frameM TM (L .slave) code t baseline body (numbered n)
+
+  ep : loads ≡ L .slave .epoch
+  ep = L .relS .epoch
+
+  -- its timestamp is above the last sent
+  above-sent : isAbove (em .timestamps .sent) (timeOf em t) ≡ true → L .master .nextOut ≤ t
+  above-sent h =
+      let z = above-top (em .timestamps .sent) (timeOf em t) h in
+      let y = time in
+      let o = L .relM .nextOut in
+      omega arith
+
+  -- the endpoint is then another
+  wrote : (e : Endpoint) (w : Sent) (code baseline : ℕ) (body : List ℕ) (n : Subconnection) (phase : MPhase)
+      → e .settings ≡ sm → markOf w ≡ written code baseline body n → Honest sm w
+      → Inv TM TS (t + c .master) given (snoc (marks l) (written code baseline body n)) (wroteM (L .master) t phase)
+      (L .slave)
+      → RelM e tm (wroteM (L .master) t phase) → AtM (l ++ (w ∷ [])) e tm
+  wrote e w code baseline body n phase s m h v r = record {
+    master = wroteM (L .master) t phase;
+    slave = L .slave;
+    paired = L .paired;
+    setM = s;
+    setS = L .setS;
+    relM = r;
+    relS = L .relS;
+    honest = honest-snoc sm l w (L .honest) h;
+    inv = subst (λ x. Inv TM TS (t + c .master) given x (wroteM (L .master) t phase) (L .slave))
+        (sym (marks-snoc l w ∙ ap (snoc (marks l)) m)) v;
+  }
 
   -- the request that is due
   module _ (value : List ℕ) (d : RequestSent em t value) (x : isExpired em t ≡ false) where
@@ -151,58 +185,60 @@ module _ (c : Clocks) (sm ss : Settings) (p : Paired sm ss) {l : List Sent} {em 
     asking = record {
       slave = false;
       moment = t + c .master;
+      loads = loads;
       fields = requestFields em t;
       body = dueData em;
       lent = some value;
     }
 
-    above-t : topOf (em .timestamps .sent) ≤ t
-    above-t = let z = above-top (em .timestamps .sent) (timeOf em t) (d .above) in let y = time in omega arith
+    abbrev code : ℕ
+    code = codeOf (requestDue em)
 
-    asked-mark : markOf asking ≡ mark 0 (codeOf (requestDue em)) t
-        (baselineOf (requestDue em) t (em .setup .measured)) (t + c .master)
-        (dueData em)
-    asked-mark = λ i. mark 0 (codeOf (requestDue em)) (time i)
-        (baselineOf (requestDue em) t (em .setup .measured)) (t + c .master)
-        (dueData em)
+    abbrev baseline : ℕ
+    baseline = baselineOf (requestDue em) t (em .setup .measured)
+
+    abbrev session : Subconnection
+    session = sessionWith em (requestDue em)
+
+    asked-mark : markOf asking ≡ written code baseline (dueData em) session
+    asked-mark = λ i. mark 0 code (time i) baseline (t + c .master) (dueData em) (numbered session) (ep i)
+
+    -- an S-Connect request carries none
+    asked-session : (b : Bool) → narrowed (cond b Absent (sessionOf em)) ≡ cond b Absent (sessionOf em)
+    asked-session true = refl
+    asked-session false = narrowed-again (em .session)
 
     asked-honest : Honest sm asking
     asked-honest = record {
       writer = refl;
       value = λ h. absurd (true≢false (sym h ∙ due-not-refresh (em .setup .queue) (em .state)));
       busy = λ h. absurd (false≢true h);
+      session = asked-session (is (requestDue em) K.Connect);
       confirms = λ a h. ap (dataOf em) (is-eq (requestDue em) K.ConfirmNetwork h)
           ∙ ap (λ (s : Settings). setupData s K.ConfirmNetwork) (L .setM);
     }
 
-    go-asked : codeOf (requestDue em) ≡ 254
-        → Has (GoOf (termsOf c sm ss) (marks l)
-        (mark 0 (codeOf (requestDue em)) t (baselineOf (requestDue em) t (em .setup .measured))
-        (t + c .master) (dueData em))) (marks l)
+    go-asked : code ≡ 254 → Has (GoOf TM (marks l) (written code baseline (dueData em) session)) (marks l)
     go-asked h =
         let k = go-due (em .setup .queue) (em .state) h in
         let g = L .relM .ready k (d .idle) in
         let b = go-baseline t (em .setup .measured) (em .setup .queue) (em .state) k in
         let u = setup-timer em t x (d .setup) in
         let r : em .settings .roundtrip ≤ 65535 = subst (λ (s : Settings). s .roundtrip ≤ 65535) (sym (L .setM))
-        (p .ticksM .roundtrip) in
+        (L .inv .smallM .trip) in
         let i = g .since in
-        let o = L .relM .nextOut in
-        let a = above-t in
-        m-goes (termsOf c sm ss) (small-of c sm ss p) t (em .setup .measured) (codeOf (requestDue em))
-        (baselineOf (requestDue em) t (em .setup .measured)) (dueData em)
-        (g .phase) refl (omega arith) (omega arith) (L .inv)
+        m-goes (L .inv) t (em .setup .measured) code baseline (dueData em) (numbered session) (g .phase) refl
+        (above-sent (d .above)) (omega arith)
 
-    pub requested-m : Linked c sm ss (t + c .master) (l ++ (asking ∷ [])) (requestedOf em t) es tm ts
+    pub requested-m : AtM (l ++ (asking ∷ [])) (requestedOf em t) tm
     requested-m =
         let q = L .relM in
         let n = setup-not-refresh (em .state) (d .setup) in
-        wrote (requestedOf em t) asking (codeOf (requestDue em))
-        (baselineOf (requestDue em) t (em .setup .measured))
-        (dueData em) (asked t) (L .setM)
-        asked-mark asked-honest
-        above-t go-asked refl
+        wrote (requestedOf em t) asking code baseline (dueData em) session (asked t) (L .setM) asked-mark asked-honest
+        (m-asks (L .inv) t code baseline (dueData em) (numbered session) refl (omega arith) (above-sent (d .above))
+        go-asked)
         (record {
+          session = q .session;
           nextOut = ap suc time;
           nextIn = q .nextIn;
           held = q .held;
@@ -218,40 +254,37 @@ module _ (c : Clocks) (sm ss : Settings) (p : Paired sm ss) {l : List Sent} {em 
     refreshing = record {
       slave = false;
       moment = t + c .master;
+      loads = loads;
       fields = refreshFields em t;
       body = value;
       lent = some value;
     }
 
-    refresh-mark : markOf refreshing ≡ mark 0 255 t 0 (t + c .master) value
-    refresh-mark = λ i. mark (cond (role i) 2 0) 255 (time i) 0 (t + c .master) value
-
-    refresh-above : topOf (em .timestamps .sent) ≤ t
-    refresh-above = let z = above-top (em .timestamps .sent) (timeOf em t) (d .above) in let y = time in omega arith
+    refresh-mark : markOf refreshing ≡ written 255 0 value (sessionOf em)
+    refresh-mark = λ i. mark (cond (role i) 2 0) 255 (time i) 0 (t + c .master) value (numbered (sessionOf em)) (ep i)
 
     live-again : (f : MPhase) (v : Option (List ℕ)) → f ≡ liveM (em .since) (em .value .age) v
-        → MPh (termsOf c sm ss) (t + c .master) (marks l) (L .master .nextOut) (L .master .held) f
-        → MPh (termsOf c sm ss) (t + c .master) (marks l) (suc t) (L .master .held) f
-    live-again f v e h =
-        subst (MPh (termsOf c sm ss) (t + c .master) (marks l) (suc t) (L .master .held)) (sym e)
-        (subst (MPh (termsOf c sm ss) (t + c .master) (marks l) (L .master .nextOut) (L .master .held)) e h)
+        → Phased (L .master .nextOut) f → Phased (suc t) f
+    live-again f v e h = subst (Phased (suc t)) (sym e) (subst (Phased (L .master .nextOut)) e h)
 
-    pub refresh-sent-m : Linked c sm ss (t + c .master) (l ++ (refreshing ∷ [])) (refreshSentOf em t) es tm ts
+    pub refresh-sent-m : AtM (l ++ (refreshing ∷ [])) (refreshSentOf em t) tm
     refresh-sent-m =
         let q = L .relM in
         let v = q .live (d .refresh) in
         let n = refresh-not-setup (em .state) (d .refresh) in
-        wrote (refreshSentOf em t) refreshing 255 0 value (L .master .phase) (L .setM) refresh-mark
+        wrote (refreshSentOf em t) refreshing 255 0 value (sessionOf em) (L .master .phase) (L .setM) refresh-mark
         (record {
           writer = role;
           value = λ h. refl;
           busy = λ h. absurd (false≢true h);
+          session = narrowed-again (em .session);
           confirms = λ a h. absurd (false≢true h);
         })
-        refresh-above
-        (λ h. absurd (omega arith))
-        (live-again (L .master .phase) (v .value) (v .phase) (L .inv .master .phase))
+        (m-writes (L .inv) t 255 0 value (numbered (sessionOf em)) (L .master .phase) refl (omega arith)
+        (above-sent (d .above)) (λ h. absurd (omega arith))
+        (live-again (L .master .phase) (v .value) (v .phase) (L .inv .master .phase)))
         (record {
+          session = q .session;
           nextOut = ap suc time;
           nextIn = q .nextIn;
           held = q .held;
@@ -266,13 +299,17 @@ module _ (c : Clocks) (sm ss : Settings) (p : Paired sm ss) {l : List Sent} {em 
     leaving = record {
       slave = false;
       moment = t + c .master;
+      loads = loads;
       fields = disconnectFields em t;
       body = setupData (em .settings) K.Disconnect;
       lent = none;
     }
 
-    leaving-mark : markOf leaving ≡ mark 0 249 t 0 (t + c .master) (setupData (em .settings) K.Disconnect)
-    leaving-mark = λ i. mark 0 249 (time i) 0 (t + c .master) (setupData (em .settings) K.Disconnect)
+    abbrev zero-word : List ℕ
+    zero-word = setupData (em .settings) K.Disconnect
+
+    leaving-mark : markOf leaving ≡ written 249 0 zero-word (sessionOf em)
+    leaving-mark = λ i. mark 0 249 (time i) 0 (t + c .master) zero-word (numbered (sessionOf em)) (ep i)
 
     stop-stamp : topOf (stoppedOf em t .timestamps .sent) ≡ suc t
     stop-stamp = ap (λ (b : Timestamps). topOf (b .sent)) (cond-false (em .settings .slave) _ _ role) ∙ ap suc time
@@ -280,31 +317,24 @@ module _ (c : Clocks) (sm ss : Settings) (p : Paired sm ss) {l : List Sent} {em 
     stop-accepted : topOf (stoppedOf em t .timestamps .accepted) ≡ topOf (em .timestamps .accepted)
     stop-accepted = ap (λ (b : Timestamps). topOf (b .accepted)) (cond-false (em .settings .slave) _ _ role)
 
-    pub stopped-m : Linked c sm ss (t + c .master) (l ++ (leaving ∷ [])) (stoppedOf em t) es tm ts
+    pub stopped-m : AtM (l ++ (leaving ∷ [])) (stoppedOf em t) tm
     stopped-m =
         let q = L .relM in
-        let z = above-top (em .timestamps .sent) (timeOf em t) (d .above role) in
-        let y = time in
-        wrote (stoppedOf em t) leaving 249 0 (setupData (em .settings) K.Disconnect) restM (L .setM) leaving-mark
+        wrote (stoppedOf em t) leaving 249 0 zero-word (sessionOf em) restM (L .setM) leaving-mark
         (record {
           writer = refl;
           value = λ h. absurd (false≢true h);
           busy = λ h. absurd (false≢true h);
+          session = narrowed-again (em .session);
           confirms = λ a h. absurd (false≢true h);
         })
-        (omega arith)
-        (λ h. absurd (omega arith)) tt
-        (record {
-          nextOut = stop-stamp;
-          nextIn = stop-accepted ∙ q .nextIn;
-          held = q .held;
-          live = λ h. absurd (false≢true h);
-          pend = λ h s e. absurd (false≢true h);
-          ready = λ h e. absurd (false≢true h);
-        })
+        (m-writes (L .inv) t 249 0 zero-word (numbered (sessionOf em)) restM refl (omega arith)
+        (above-sent (d .above role)) (λ h. absurd (omega arith)) tt)
+        (idle (stoppedOf em t) (wroteM (L .master) t restM) (q .session) stop-stamp (stop-accepted ∙ q .nextIn)
+        (q .held) refl (λ h. absurd (false≢true h)) refl)
 
   -- ---- a frame of the log, at place k, that the slave wrote
-  module _ (f : Fields) (body : List ℕ) (k : ℕ) (g : FoundAt f body l k) (slaves : f .application ≡ true) where
+  module _ (f : Fields) (body : List ℕ) (k : ℕ) (g : Handed given f body l k) (slaves : f .application ≡ true) where
     who-is : (b : Bool) → is (f .command) K.Refresh ≡ b → whoOf f ≡ cond b 2 1
     who-is b h = (λ i. cond (slaves i) (cond (h i) 2 1) 0)
 
@@ -317,26 +347,57 @@ module _ (c : Clocks) (sm ss : Settings) (p : Paired sm ss) {l : List Sent} {em 
       not-refresh = ap (λ (q : Command). is q K.Refresh) due
           ∙ due-not-refresh (em .setup .queue) (em .state)
 
+      marked-reply : at (marks l) k .who ≡ 1
+      marked-reply = ap (λ (y : Mark). y .who) (the-mark g) ∙ who-is false not-refresh
+
       -- no queued command is due: the reply leads on
       module _ (n : isCommandDue em ≡ false) where
         next-due : requestDue em ≡ requestOf (em .state)
         next-due = cond-false (isCommandDue em) (queuedIn (em .setup .queue)) (requestOf (em .state)) n
 
-        leads-to : (s : State) → em .state ≡ s → confirmedOf em t .state ≡ stateTo (nextOf (requestOf s) s) s
+        leads-to : (s : State) → em .state ≡ s → confirmedOf em t f .state ≡ stateTo (nextOf (requestOf s) s) s
         leads-to s e = ap (λ (k : Command). stateTo (nextOf k (em .state)) (em .state)) next-due
             ∙ ap (λ (y : State). stateTo (nextOf (requestOf y) y) y) e
 
-        before : (s : State) → em .state ≡ s → isState (stateTo (nextOf (requestOf s) s) s) Refresh ≡ false
-            → isState (stateTo (nextOf (requestOf s) s) s) RefreshPending ≡ false
-            → Linked c sm ss (t + c .master) l (confirmedOf em t) es tm ts
-        before s e a b =
-            rest (confirmedOf em t) (L .setM) refl refl (ap (λ (y : State). isState y Refresh) (leads-to s e) ∙ a)
+        -- the session number comes with S-Connect's, and stays with the others
+        session-by : (s : State) → em .state ≡ s
+            → sessionBy em f ≡ cond (is (requestOf s) K.Connect) (f .subconnection) (em .session)
+        session-by s e = ap (λ (k : Command). cond (is k K.Connect) (f .subconnection) (em .session))
+            (next-due ∙ ap requestOf e)
+
+        keeps-session : (s : State) → em .state ≡ s → is (requestOf s) K.Connect ≡ false
+            → numbered (sessionOf (confirmedOf em t f)) ≡ numbered (sessionOf em)
+        keeps-session s e h = ap (λ (n : Subconnection). numbered (narrowed n))
+            (session-by s e ∙ ap (λ (b : Bool). cond b (f .subconnection) (em .session)) h)
+
+        before : (s : State) → em .state ≡ s → is (requestOf s) K.Connect ≡ false
+            → isState (stateTo (nextOf (requestOf s) s) s) Refresh ≡ false
+            → isState (stateTo (nextOf (requestOf s) s) s) RefreshPending ≡ false → AtM l (confirmedOf em t f) tm
+        before s e k a b =
+            rest (confirmedOf em t f) (L .setM) (keeps-session s e k) refl refl
+            (ap (λ (y : State). isState y Refresh) (leads-to s e) ∙ a)
             (λ z. refl) (ap (λ (y : State). isState y RefreshPending) (leads-to s e) ∙ b)
+
+        -- S-Connect's: its number
+        connected-m : em .state ≡ Starting → AtM l (confirmedOf em t f) tm
+        connected-m e =
+            let q = L .relM in
+            let a = q .pend (d .setup) (f .timestamp) (d .pending) in
+            let own : narrowed (f .subconnection) ≡ f .subconnection =
+            subst (λ (y : Fields). narrowed (y .subconnection) ≡ y .subconnection) (g .found .fields)
+            (L .honest k (g .found .there) .session) in
+            become (confirmedOf em t f) (L .setM)
+            (idle (confirmedOf em t f) (connectedM (L .master) (at (marks l) k))
+            (ap (λ (n : Subconnection). numbered (narrowed n)) (session-by Starting e) ∙ ap numbered own
+            ∙ sym (marked-session g))
+            (q .nextOut) (q .nextIn) (q .held) (ap (λ (y : State). isState y Refresh) (leads-to Starting e))
+            (λ z. refl) (ap (λ (y : State). isState y RefreshPending) (leads-to Starting e)))
+            (m-connects (L .inv) (f .timestamp) k (a .phase) (in-log g) marked-reply (marked-stamp g))
 
         -- S-RefreshReady's: m2
         ready-m : (s : State) → em .state ≡ s → requestOf s ≡ K.RefreshReady
             → stateTo (nextOf (requestOf s) s) s ≡ RefreshPending
-            → Linked c sm ss (t + c .master) l (confirmedOf em t) es tm ts
+            → AtM l (confirmedOf em t f) tm
         ready-m s e asks to =
             let q = L .relM in
             let due-ready : requestDue em ≡ K.RefreshReady = next-due ∙ ap requestOf e ∙ asks in
@@ -344,72 +405,45 @@ module _ (c : Clocks) (sm ss : Settings) (p : Paired sm ss) {l : List Sent} {em 
             let u = setup-timer em t x (d .setup) in
             let r : em .settings .roundtrip ≡ sm .roundtrip = ap (λ (y : Settings). y .roundtrip) (L .setM) in
             let i = a .since in
-            let s2 : confirmedOf em t .state ≡ RefreshPending = leads-to s e ∙ to in
-            let m2 : confirmedOf em t .setup .measured ≡ t =
+            let s2 : confirmedOf em t f .state ≡ RefreshPending = leads-to s e ∙ to in
+            let m2 : confirmedOf em t f .setup .measured ≡ t =
             ap (λ (y : Command). measuredBy y t (em .setup .measured)) due-ready in
-            let w1 : at (marks l) k .who ≡ 1 = ap (λ (y : Mark). y .who) (the-mark f body l k g)
-            ∙ who-is false not-refresh in
-            let w2 : at (marks l) k .code ≡ 252 = ap (λ (y : Mark). y .code) (the-mark f body l k g)
-            ∙ ap codeOf (due ∙ due-ready) in
-            let w3 : at (marks l) k .stamp ≡ f .timestamp = ap (λ (y : Mark). y .stamp) (the-mark f body l k g) in
-            record {
-              master = record {
-                nextOut = L .master .nextOut;
-                nextIn = L .master .nextIn;
-                held = L .master .held;
-                phase = got t;
-              };
-              slave = L .slave;
-              setM = L .setM;
-              setS = L .setS;
-              relM = record {
-                nextOut = q .nextOut;
-                nextIn = q .nextIn;
-                held = q .held;
-                live = λ z. absurd (false≢true (sym (ap (λ (y : State). isState y Refresh) s2) ∙ z));
-                pend = λ z y o. let v : _≡_ {A = ℕ} 0 1 = cc in absurd (omega arith);
-                ready = λ z y. record { phase = ap got (sym m2); since = sym m2 };
-              };
-              relS = L .relS;
-              honest = L .honest;
-              inv = m-got (termsOf c sm ss) (small-of c sm ss p) t (f .timestamp) k (a .phase) (omega arith)
-                  (omega arith) (in-log f body l k g) w1 w2 w3 (L .inv);
-            }
+            become (confirmedOf em t f) (L .setM)
+            (record {
+              session = keeps-session s e (ap (λ (y : Command). is y K.Connect) asks) ∙ q .session;
+              nextOut = q .nextOut;
+              nextIn = q .nextIn;
+              held = q .held;
+              live = λ z. absurd (false≢true (sym (ap (λ (y : State). isState y Refresh) s2) ∙ z));
+              pend = λ z y o. let v : _≡_ {A = ℕ} 0 1 = cc in absurd (omega arith);
+              ready = λ z y. record { phase = ap got (sym m2); since = sym m2 };
+            })
+            (m-got (L .inv) t (f .timestamp) k (a .phase) (omega arith) (omega arith) (in-log g) marked-reply
+            (marked-code g ∙ ap codeOf (due ∙ due-ready)) (marked-stamp g))
 
         -- S-RefreshGO's: Refresh
-        go-m : em .state ≡ RefreshPending → Linked c sm ss (t + c .master) l (confirmedOf em t) es tm ts
+        go-m : em .state ≡ RefreshPending → AtM l (confirmedOf em t f) tm
         go-m e =
             let q = L .relM in
-            let s2 : confirmedOf em t .state ≡ Refresh = leads-to RefreshPending e in
-            record {
-              master = record {
-                nextOut = L .master .nextOut;
-                nextIn = L .master .nextIn;
-                held = L .master .held;
-                phase = liveM t 0 none;
-              };
-              slave = L .slave;
-              setM = L .setM;
-              setS = L .setS;
-              relM = record {
-                nextOut = q .nextOut;
-                nextIn = q .nextIn;
-                held = q .held;
-                live = λ z. record { value = none; phase = refl; holds = refl };
-                pend = λ z y o. let v : _≡_ {A = ℕ} 0 1 = cc in absurd (omega arith);
-                ready = λ z y. absurd (false≢true (sym (ap (λ (y : State). isState y RefreshPending) s2) ∙ z));
-              };
-              relS = L .relS;
-              honest = L .honest;
-              inv = m-phase (termsOf c sm ss) (small-of c sm ss p) (liveM t 0 none) (omega arith, tt) (L .inv);
-            }
+            let s2 : confirmedOf em t f .state ≡ Refresh = leads-to RefreshPending e in
+            become (confirmedOf em t f) {M = phasedM (L .master) (liveM t 0 none)} (L .setM)
+            (record {
+              session = keeps-session RefreshPending e refl ∙ q .session;
+              nextOut = q .nextOut;
+              nextIn = q .nextIn;
+              held = q .held;
+              live = λ z. record { value = none; phase = refl; holds = refl };
+              pend = λ z y o. let v : _≡_ {A = ℕ} 0 1 = cc in absurd (omega arith);
+              ready = λ z y. absurd (false≢true (sym (ap (λ (y : State). isState y RefreshPending) s2) ∙ z));
+            })
+            (m-phase (L .inv) (liveM t 0 none) (omega arith, tt))
 
         confirmed : (s : State) → em .state ≡ s → isSetup s ≡ true
-            → Linked c sm ss (t + c .master) l (confirmedOf em t) es tm ts
+            → AtM l (confirmedOf em t f) tm
         confirmed Close e h = absurd (false≢true h)
-        confirmed Starting e h = before Starting e refl refl
-        confirmed EstablishPending e h = before EstablishPending e refl refl
-        confirmed Establish e h = before Establish e refl refl
+        confirmed Starting e h = connected-m e
+        confirmed EstablishPending e h = before EstablishPending e refl refl refl
+        confirmed Establish e h = before Establish e refl refl refl
         confirmed ParamVerify e h = ready-m ParamVerify e refl refl
         confirmed FuncRunning e h = ready-m FuncRunning e refl refl
         confirmed RefreshPending e h = go-m e
@@ -418,24 +452,23 @@ module _ (c : Clocks) (sm ss : Settings) (p : Paired sm ss) {l : List Sent} {em 
         confirmed TerminateMore e h = absurd (false≢true h)
 
       -- a queued command's: nothing is pending, and m2 is not fixed yet
-      performed : isCommandDue em ≡ true → Linked c sm ss (t + c .master) l (performedOf em t) es tm ts
+      performed : isCommandDue em ≡ true → AtM l (performedOf em t) tm
       performed n =
           let u = command-due (isWaiting (em .setup .queue)) (em .state) n in
-          rest (performedOf em t) (L .setM) refl refl (u .0) (λ h. refl) (u .1)
+          rest (performedOf em t) (L .setM) refl refl refl (u .0) (λ h. refl) (u .1)
 
       -- Busy: the same
-      due-again : f .busy ≡ true → Linked c sm ss (t + c .master) l (dueAgainOf em t) es tm ts
+      due-again : f .busy ≡ true → AtM l (dueAgainOf em t) tm
       due-again b =
           let may : mayBeBusy (f .command) ≡ true =
-          subst (λ (y : Fields). y .busy ≡ true → mayBeBusy (y .command) ≡ true) (g .fields)
-          (L .honest k (g .there) .busy) b in
+          subst (λ (y : Fields). y .busy ≡ true → mayBeBusy (y .command) ≡ true) (g .found .fields)
+          (L .honest k (g .found .there) .busy) b in
           let u = busy-due (em .setup .queue) (em .state) (ap mayBeBusy (sym due) ∙ may) in
-          rest (dueAgainOf em t) (L .setM) refl refl (u .0) (λ h. refl) (u .1)
+          rest (dueAgainOf em t) (L .setM) refl refl refl (u .0) (λ h. refl) (u .1)
 
       abbrev Heard : Bool → Bool → Type 0
       Heard busy queued =
-          Linked c sm ss (t + c .master) l
-          (cond busy (dueAgainOf em t) (cond queued (performedOf em t) (confirmedOf em t))) es tm ts
+          AtM l (cond busy (dueAgainOf em t) (cond queued (performedOf em t) (confirmedOf em t f))) tm
 
       sound : (queued : Bool) → isCommandDue em ≡ queued → Heard false queued
       sound true n = performed n
@@ -447,9 +480,15 @@ module _ (c : Clocks) (sm ss : Settings) (p : Paired sm ss) {l : List Sent} {em 
           (λ b. subst (λ (y : Bool). Heard y (isCommandDue em)) (sym b) (sound (isCommandDue em) refl))
 
     -- an S-Refresh of the slave
-    module _ (d : RefreshTaken em t (f .timestamp) body) (r : is (f .command) K.Refresh ≡ true) where
+    module _ (d : RefreshTaken em t (f .subconnection) (f .timestamp) body) (r : is (f .command) K.Refresh ≡ true) where
       marked-who : at (marks l) k .who ≡ 2
-      marked-who = ap (λ (y : Mark). y .who) (the-mark f body l k g) ∙ who-is true r
+      marked-who = ap (λ (y : Mark). y .who) (the-mark g) ∙ who-is true r
+
+      -- it has the master's number
+      marked-own : at (marks l) k .session ≡ L .master .session
+      marked-own =
+          marked-session g ∙ ap numbered (sym (session-eq (sessionOf em) (f .subconnection) (d .session)))
+          ∙ L .relM .session
 
       -- a master allows no more than R ahead
       allows : allowanceOf (em .settings) ≤ em .settings .roundtrip
@@ -458,7 +497,7 @@ module _ (c : Clocks) (sm ss : Settings) (p : Paired sm ss) {l : List Sent} {em 
       reckoned : ageOf em t (f .timestamp) ≡ minus (t % span) (at (marks l) k .stamp)
       reckoned =
           ap (λ (y : ℕ). minus y (f .timestamp)) (time ∙ omega arith)
-          ∙ ap (minus (t % span)) (sym (marked-stamp f body l k g))
+          ∙ ap (minus (t % span)) (sym (marked-stamp g))
 
       young : Young (minus (t % span) (at (marks l) k .stamp)) (sm .roundtrip) (sm .age)
       young =
@@ -479,65 +518,55 @@ module _ (c : Clocks) (sm ss : Settings) (p : Paired sm ss) {l : List Sent} {em 
           let q = L .relM in
           let a = above-top (em .timestamps .accepted) (f .timestamp) (d .above) in
           let i = q .nextIn in
-          let s = (marked-stamp f body l k g) in
-          let z = held-rises (termsOf c sm ss) (small-of c sm ss p) 2 (L .master .nextIn) (L .master .held) k
-          (L .inv .log) (L .inv .master .held) (in-log f body l k g) marked-who (omega arith) in
+          let s = marked-stamp g in
+          let z = held-rises-m (L .inv) k (in-log g) marked-who (omega arith) marked-own (marked-travels g) in
           let h = q .held in
           omega arith
 
-      pub refreshed-m : Linked c sm ss (t + c .master) l (refreshedOf em t (f .timestamp) (paddedOf body)) es (suc k) ts
+      pub refreshed-m : AtM l (refreshedOf em t (f .timestamp) (paddedOf body)) (suc k)
       refreshed-m =
           let q = L .relM in
           let a = above-top (em .timestamps .accepted) (f .timestamp) (d .above) in
           let i = q .nextIn in
-          let s = (marked-stamp f body l k g) in
+          let s = marked-stamp g in
           let n = refresh-not-setup (em .state) (d .refresh) in
-          let b = marked-body f body l k g in
-          record {
-            master = record {
-              nextOut = L .master .nextOut;
-              nextIn = suc (at (marks l) k .stamp);
-              held = suc k;
-              phase = liveM t (countedAge (minus (t % span) (at (marks l) k .stamp))) (some (at (marks l) k .body));
+          let b = marked-body g in
+          become (refreshedOf em t (f .timestamp) (paddedOf body)) (L .setM)
+          (record {
+            session = q .session;
+            nextOut = q .nextOut;
+            nextIn = ap suc (sym (marked-stamp g));
+            held = refl;
+            live = λ z. record {
+              value = some body;
+              phase = λ j. liveM t (countedAge (sym reckoned j)) (some (b j));
+              holds = (refl, refl, d .width);
             };
-            slave = L .slave;
-            setM = L .setM;
-            setS = L .setS;
-            relM = record {
-              nextOut = q .nextOut;
-              nextIn = ap suc (sym (marked-stamp f body l k g));
-              held = refl;
-              live = λ z. record {
-                value = some body;
-                phase = λ j. liveM t (countedAge (sym reckoned j)) (some (b j));
-                holds = (refl, refl, d .width);
-              };
-              pend = λ z y o. absurd (true≢false (sym z ∙ n));
-              ready = λ z y. absurd (true≢false (sym (pending-setup (em .state) z) ∙ n));
-            };
-            relS = L .relS;
-            honest = L .honest;
-            inv = m-takes (termsOf c sm ss) (small-of c sm ss p) t k refl (omega arith) (in-log f body l k g)
-                marked-who ((marked-code f body l k g) ∙ eqb-true (codeOf (f .command)) 255 r) (omega arith)
-                (young-more _ _ _ _ (omega arith) young) (L .inv);
-          }
+            pend = λ z y o. absurd (true≢false (sym z ∙ n));
+            ready = λ z y. absurd (true≢false (sym (pending-setup (em .state) z) ∙ n));
+          })
+          (m-takes (L .inv) t k refl (omega arith) (in-log g) marked-who
+          (marked-code g ∙ eqb-true (codeOf (f .command)) 255 r) (omega arith)
+          (young-more _ _ _ _ (omega arith) young) marked-own)
 
   -- ---- a show that is not fail-safe
   module _ (x : isExpired em t ≡ false) (n : isFailSafe em ≡ false) where
-    pub shown-m : ShownAt (marks l) 2 tm (t + c .master) (heldAge em t) (marginAt false sm) (shownOf em)
+    pub shown-m : ShownAt (marks l) 2 tm (t + c .master) (heldAge em t) (marginAt false (em .settings))
+        (shownOf em)
     shown-m =
         let v = L .relM .live (in-refresh em n) in
-        let w : MPh (termsOf c sm ss) (t + c .master) (marks l) (L .master .nextOut) (L .master .held)
-        (liveM (em .since) (em .value .age) (v .value)) =
-        subst (MPh (termsOf c sm ss) (t + c .master) (marks l) (L .master .nextOut) (L .master .held)) (v .phase)
-        (L .inv .master .phase) in
+        let w : Phased (L .master .nextOut) (liveM (em .since) (em .value .age) (v .value)) =
+        subst (Phased (L .master .nextOut)) (v .phase) (L .inv .master .phase) in
         let a = w .0 in
         let u = refresh-timer em t x (in-refresh em n) in
         let i : em .settings .interval ≡ sm .interval = ap (λ (y : Settings). y .interval) (L .setM) in
-        let s = p .ticksM .age in
-        let s′ = p .ticksM .interval in
-        held-shown em (marks l) 2 (L .master .nextIn) tm (em .since + c .master) t (t + c .master) (sm .interval)
-        (marginM (termsOf c sm ss)) (marginAt false sm) (v .value) (L .master .held) n (v .holds) (L .relM .held)
-        (L .inv .master .held) (w .1) (λ k z. L .inv .log .stamped k z .past)
+        let r : em .settings .roundtrip ≡ sm .roundtrip = ap (λ (y : Settings). y .roundtrip) (L .setM) in
+        let o : em .settings .age ≡ sm .age = ap (λ (y : Settings). y .age) (L .setM) in
+        let s = L .inv .smallM .age in
+        let s′ = L .inv .smallM .hold in
+        held-shown em (marks l) (HeldByM (L .master .floor) (L .master .nextIn)) 2 tm (em .since + c .master) t
+        (t + c .master) (sm .interval) (marginM TM) (marginAt false (em .settings)) (v .value) (L .master .held) n
+        (v .holds) (L .relM .held) (L .inv .master .held) (λ y f. (f .who, f .code)) (w .1)
+        (λ k z. L .inv .log .stamped k z .past)
         (record { up = omega arith; down = omega arith }) (omega arith) (omega arith)
         (record { most = omega arith; low = omega arith; high = omega arith; small = omega arith })

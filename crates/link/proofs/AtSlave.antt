@@ -11,8 +11,9 @@ use borrow.Author.Tests.{eqb-true}
 use Rattle.words.specs.Words.{wordAt}
 use Rattle.frame.specs.declared.Command.{Command}
 use Rattle.frame.specs.declared.Command.the-variants as K
+use Rattle.frame.specs.declared.Subconnection.the-variants.{Number}
 use Rattle.frame.specs.declared.Fields.{Fields}
-use Rattle.frame.specs.Control.{is, codeOf, waitsForStation, mayBeBusy}
+use Rattle.frame.specs.Control.{is, isSame, codeOf, waitsForStation, mayBeBusy, narrowed}
 use mathlib.Mathlib.Data.Bool.Basic.{and-elim-right as and-right}
 use Rattle.endpoint.specs.declared.Settings.{Settings}
 use Rattle.endpoint.specs.declared.State.{State}
@@ -27,106 +28,170 @@ use Rattle.endpoint.specs.Due.{isHeldBack}
 use Rattle.endpoint.specs.Time.{span, minus, isExpired, isAbove, endedOf, countedAge, heldAge, offsetFrom, timeOf}
 use Rattle.endpoint.specs.Time.{ageOf}
 use Rattle.endpoint.specs.Updates.{inState}
-use Rattle.transitions.specs.ByCall.{restartedOf, refreshSentOf, stoppedOf}
+use Rattle.transitions.specs.ByCall.{sessionFrom, freshOf, restartedOf, refreshSentOf, stoppedOf}
 use Rattle.transitions.specs.ByFrame.{refreshedOf, measuredBy, advancedOf, endedBy, deferredOf}
 use Rattle.steps.specs.Frames.{setupData, refreshFields, replyFields, hasResult, isBusy, replyData}
 use Rattle.steps.specs.Calls.{isFailSafe, shownOf}
-use Rattle.steps.specs.Frames.{paddedOf}
+use Rattle.steps.specs.Frames.{paddedOf, sessionOf}
 use Rattle.steps.specs.Laws.{RefreshSent, RequestTaken, RefreshTaken}
 use Rattle.steps.proofs.Dispatch.{cond-true}
 use Rattle.steps.proofs.Keeps.{bcase}
-use Rattle.link.specs.Runs.{Clocks, Sent}
+use Rattle.link.specs.Runs.{Clocks, Sent, Grant, grant}
 use Rattle.link.specs.Fresh.{Paired}
 use Rattle.link.proofs.Marks.{Mark, mark, at, snoc}
-use Rattle.link.proofs.Invariant.{limit, SPhase, restS, armed, liveS, Slave, Inv, SPh, LiveS, marginS}
-use Rattle.link.proofs.Invariant.{pace-hold, elder}
-use Rattle.link.proofs.Kept.{s-phase, s-hears, s-replies, s-arms, s-goes, s-sends, s-takes, held-rises}
-use Rattle.link.proofs.Relation.{termsOf, small-of, markOf, marks, topOf, above-top, RelS, Honest, Linked}
+use Rattle.link.proofs.Invariant.{limit, Terms, SPhase, restS, armed, liveS, Slave, Inv, SPh, LiveS, marginS}
+use Rattle.link.proofs.Invariant.{pace-hold, elder, granted, phasedS, heardS, wroteS, restartedS, loadedS}
+use Rattle.link.proofs.Invariant.{replyS, refreshS, HeldByS}
+use Rattle.link.proofs.Kept.{s-phase, s-restarts, s-load, s-hears, s-replies, s-arms, s-goes, s-sends, s-takes}
+use Rattle.link.proofs.Kept.{held-rises-s}
+use Rattle.link.proofs.Relation.{termsOf, small-of, numbered, markOf, marks, topOf, above-top, RelS, Honest}
+use Rattle.link.proofs.Relation.{Linked, narrowed-again}
 use Rattle.link.proofs.Relation.{roundtrip-in, setup-timer, refresh-timer, slave-time, not-late, toldOf}
-use Rattle.link.proofs.Entries.{marks-snoc, honest-snoc, is-eq, FoundAt, in-log, the-mark, marked-code}
-use Rattle.link.proofs.Entries.{marked-stamp, marked-body}
+use Rattle.link.proofs.Entries.{marks-snoc, honest-snoc, is-eq, session-eq, Handed, in-log, the-mark}
+use Rattle.link.proofs.Entries.{marked-code, marked-stamp, marked-body, marked-session, marked-travels}
 use Rattle.link.proofs.Shown.{ShownAt, marginAt, in-refresh, held-shown}
 use Rattle.link.proofs.Codes.{refresh-not-setup, pending-setup, targetOf, leads, go-from, held-from}
 use Rattle.link.proofs.Codes.{Unfixed, isEstablished, refresh-established, not-established}
 use Rattle.link.proofs.Codes.{stays-established, busy-may}
 
-module _ (c : Clocks) (sm ss : Settings) (p : Paired sm ss) {l : List Sent} {em es : Endpoint} {tm ts : ℕ} (t : ℕ)
-    (lim : t ≤ limit)
-    (L : Linked c sm ss (t + c .slave) l em es tm ts) where
+module _ {c : Clocks} {sm ss : Settings} {loads : ℕ} {given : List Grant} {l : List Sent} {em es : Endpoint}
+    {tm ts : ℕ} (t : ℕ) (lim : t ≤ limit) (L : Linked c sm ss loads given (t + c .slave) l em es tm ts) where
+  -- the terms of either end
+  abbrev TM : Terms
+  TM = termsOf (c .master) sm
+
+  abbrev TS : Terms
+  TS = termsOf (c .slave) ss
+
+  -- what is kept, of the log, the endpoint and the place last taken
+  abbrev AtS : List Sent → Endpoint → ℕ → Type 0
+  AtS x e n = Linked c sm ss loads given (t + c .slave) x em e tm n
+
   role : es .settings .slave ≡ true
-  role = ap (λ (s : Settings). s .slave) (L .setS) ∙ p .slave
+  role = ap (λ (s : Settings). s .slave) (L .setS) ∙ L .paired .slave
 
   time : timeOf es t ≡ (t + es .setup .offset) % span
   time = slave-time es t role
 
-  -- an endpoint that waits for nothing
-  rest : (e : Endpoint) → e .settings ≡ ss → topOf (e .timestamps .sent) ≡ topOf (es .timestamps .sent)
-      → topOf (e .timestamps .accepted) ≡ topOf (es .timestamps .accepted) → isEstablished (e .state) ≡ false
-      → Linked c sm ss (t + c .slave) l em e tm ts
-  rest e s o i n =
-      let q = L .relS in
+  -- the endpoint becomes another, and nothing is written; a restart gives a number
+  become : (e : Endpoint) {g : List Grant} {n : ℕ} {S : Slave} → e .settings ≡ ss → RelS sm loads e n S
+      → Inv TM TS (t + c .slave) g (marks l) (L .master) S → Linked c sm ss loads g (t + c .slave) l em e tm n
+  become e {S = S} s r v = record {
+    master = L .master;
+    slave = S;
+    paired = L .paired;
+    setM = L .setM;
+    setS = s;
+    relM = L .relM;
+    relS = r;
+    honest = L .honest;
+    inv = v;
+  }
+
+  -- one that waits for nothing
+  idle : (e : Endpoint) (S : Slave) → sessionOf e ≡ Number (S .number) → loads ≡ S .epoch
+      → topOf (e .timestamps .sent) ≡ S .nextOut → topOf (e .timestamps .accepted) ≡ S .nextIn → ts ≡ S .held
+      → isEstablished (e .state) ≡ false → RelS sm loads e ts S
+  idle e S m k o i h n =
       let u = not-established (e .state) n in
       record {
-        master = L .master;
-        slave = record { nextOut = L .slave .nextOut; nextIn = L .slave .nextIn; held = L .slave .held; phase = restS };
-        setM = L .setM;
-        setS = s;
-        relM = L .relM;
-        relS = record {
-          nextOut = o ∙ q .nextOut;
-          nextIn = i ∙ q .nextIn;
-          held = q .held;
-          live = λ h. absurd (true≢false (sym h ∙ u .0));
-          ready = λ h. absurd (true≢false (sym h ∙ u .1));
-          agreed = λ h. absurd (true≢false (sym h ∙ n));
-        };
-        honest = L .honest;
-        inv = s-phase (termsOf c sm ss) (small-of c sm ss p) restS tt (L .inv);
+        number = m;
+        epoch = k;
+        nextOut = o;
+        nextIn = i;
+        held = h;
+        live = λ h. absurd (true≢false (sym h ∙ u .0));
+        ready = λ h. absurd (true≢false (sym h ∙ u .1));
+        agreed = λ h. absurd (true≢false (sym h ∙ n));
       }
 
-  pub ended-s : Linked c sm ss (t + c .slave) l em (endedOf es) tm ts
-  ended-s = rest (endedOf es) (L .setS) refl refl refl
+  -- that keeps its session number, and what it remembers of timestamps
+  rest : (e : Endpoint) → e .settings ≡ ss → sessionOf e ≡ sessionOf es
+      → topOf (e .timestamps .sent) ≡ topOf (es .timestamps .sent)
+      → topOf (e .timestamps .accepted) ≡ topOf (es .timestamps .accepted) → isEstablished (e .state) ≡ false
+      → AtS l e ts
+  rest e s m o i n =
+      let q = L .relS in
+      become e s
+      (idle e (phasedS (L .slave) restS) (m ∙ q .number) (q .epoch) (o ∙ q .nextOut) (i ∙ q .nextIn) (q .held) n)
+      (s-phase (L .inv) restS tt)
 
-  pub restarted-s : Linked c sm ss (t + c .slave) l em (restartedOf es) tm ts
-  restarted-s = rest (restartedOf es) (L .setS) refl refl refl
+  pub ended-s : AtS l (endedOf es) ts
+  ended-s = rest (endedOf es) (L .setS) refl refl refl refl
 
-  pub stopped-s : Linked c sm ss (t + c .slave) l em (stoppedOf es t) tm ts
+  -- a restart gives a number
+  pub restarted-s : (number : ℕ)
+      → Linked c sm ss loads (grant number loads ∷ given) (t + c .slave) l em (restartedOf es number) tm ts
+  restarted-s number =
+      let q = L .relS in
+      let n = number % 65536 in
+      become (restartedOf es number) (L .setS)
+      (idle (restartedOf es number) (restartedS (L .slave) n)
+      (ap (λ (b : Bool). narrowed (sessionFrom b number)) role) (q .epoch) (q .nextOut) (q .nextIn) (q .held) refl)
+      (subst (λ (k : ℕ). Inv TM TS (t + c .slave) (granted n k ∷ given) (marks l) (L .master) (restartedS (L .slave) n))
+      (sym (q .epoch)) (s-restarts (L .inv) n))
+
+  pub stopped-s : AtS l (stoppedOf es t) ts
   stopped-s =
       let q = cond-true (es .settings .slave) (es .timestamps) _ role in
-      rest (stoppedOf es t) (L .setS) (ap (λ (b : Timestamps). topOf (b .sent)) q)
+      rest (stoppedOf es t) (L .setS) refl (ap (λ (b : Timestamps). topOf (b .sent)) q)
       (ap (λ (b : Timestamps). topOf (b .accepted)) q) refl
 
-  pub told-s : (s : Station) (q : Queue) (w x : Words) → Linked c sm ss (t + c .slave) l em (toldOf es s q w x) tm ts
+  pub told-s : (s : Station) (q : Queue) (w x : Words) → AtS l (toldOf es s q w x) ts
   told-s s k w x =
       let q = L .relS in
-      record {
-        master = L .master;
-        slave = L .slave;
-        setM = L .setM;
-        setS = L .setS;
-        relM = L .relM;
-        relS = record {
-          nextOut = q .nextOut;
-          nextIn = q .nextIn;
-          held = q .held;
-          live = λ h. let v = q .live h in record { value = v .value; phase = v .phase; holds = v .holds };
-          ready = λ h. let r = q .ready h in record { phase = r .phase; since = r .since };
-          agreed = q .agreed;
-        };
-        honest = L .honest;
-        inv = L .inv;
-      }
+      become (toldOf es s k w x) (L .setS)
+      (record {
+        number = q .number;
+        epoch = q .epoch;
+        nextOut = q .nextOut;
+        nextIn = q .nextIn;
+        held = q .held;
+        live = λ h. let v = q .live h in record { value = v .value; phase = v .phase; holds = v .holds };
+        ready = λ h. let r = q .ready h in record { phase = r .phase; since = r .since };
+        agreed = q .agreed;
+      })
+      (L .inv)
+
+  -- a frame is written, with the slave's number; the endpoint is then another
+  nu : numbered (sessionOf es) ≡ suc (L .slave .number)
+  nu = ap numbered (L .relS .number)
+
+  ep : loads ≡ L .slave .epoch
+  ep = L .relS .epoch
+
+  wrote : (e : Endpoint) (w : Sent) (x : Mark) (S : Slave) → e .settings ≡ ss → markOf w ≡ x → Honest sm w
+      → RelS sm loads e ts S → Inv TM TS (t + c .slave) given (snoc (marks l) x) (L .master) S
+      → AtS (l ++ (w ∷ [])) e ts
+  wrote e w x S s m h r v = record {
+    master = L .master;
+    slave = S;
+    paired = L .paired;
+    setM = L .setM;
+    setS = s;
+    relM = L .relM;
+    relS = r;
+    honest = honest-snoc sm l w (L .honest) h;
+    inv = subst (λ y. Inv TM TS (t + c .slave) given y (L .master) S)
+        (sym (marks-snoc l w ∙ ap (snoc (marks l)) m)) v;
+  }
 
   -- S-Refresh with the lent value
   module _ (value : List ℕ) (d : RefreshSent es t value) where
     abbrev pub refreshing : Sent
-    refreshing =
-        record { slave = true; moment = t + c .slave; fields = refreshFields es t; body = value; lent = some value }
+    refreshing = record {
+      slave = true;
+      moment = t + c .slave;
+      loads = loads;
+      fields = refreshFields es t;
+      body = value;
+      lent = some value;
+    }
 
-    refresh-mark : markOf refreshing ≡ mark 2 255 ((t + es .setup .offset) % span) 0 (t + c .slave) value
-    refresh-mark = λ i. mark (cond (role i) 2 0) 255 (time i) 0 (t + c .slave) value
+    refresh-mark : markOf refreshing ≡ refreshS (L .slave) ((t + es .setup .offset) % span) (t + c .slave) value
+    refresh-mark = λ i. mark (cond (role i) 2 0) 255 (time i) 0 (t + c .slave) value (nu i) (ep i)
 
-    pub refresh-sent-s : Linked c sm ss (t + c .slave) (l ++ (refreshing ∷ [])) em (refreshSentOf es t) tm ts
+    pub refresh-sent-s : AtS (l ++ (refreshing ∷ [])) (refreshSentOf es t) ts
     refresh-sent-s =
         let q = L .relS in
         let v = q .live (d .refresh) in
@@ -134,89 +199,67 @@ module _ (c : Clocks) (sm ss : Settings) (p : Paired sm ss) {l : List Sent} {em 
         let a = above-top (es .timestamps .sent) (timeOf es t) (d .above) in
         let y = time in
         let o = q .nextOut in
-        let S : Slave = record {
-          nextOut = suc ((t + es .setup .offset) % span);
-          nextIn = L .slave .nextIn;
-          held = L .slave .held;
-          phase = L .slave .phase;
-        } in
-        record {
-          master = L .master;
-          slave = S;
-          setM = L .setM;
-          setS = L .setS;
-          relM = L .relM;
-          relS = record {
-            nextOut = ap suc time;
-            nextIn = q .nextIn;
-            held = q .held;
-            live = λ h. record { value = v .value; phase = v .phase; holds = v .holds };
-            ready = λ h. absurd (true≢false (sym (pending-setup (es .state) h) ∙ n));
-            agreed = q .agreed;
-          };
-          honest = honest-snoc sm l refreshing (L .honest) (record {
-            writer = role;
-            value = λ h. refl;
-            busy = λ h. absurd (false≢true h);
-            confirms = λ a h. absurd (false≢true h);
-          });
-          inv = subst (λ (x : List Mark). Inv (termsOf c sm ss) (t + c .slave) x (L .master) S)
-              (sym (marks-snoc l refreshing ∙ ap (snoc (marks l)) refresh-mark))
-              (s-sends (termsOf c sm ss) (small-of c sm ss p) t (t + c .slave) (es .setup .offset) (es .since)
-              (es .value .age) value (v .value) (v .phase) refl refl
-              (omega arith) (L .inv));
-        }
+        wrote (refreshSentOf es t) refreshing _ (wroteS (L .slave) ((t + es .setup .offset) % span)) (L .setS)
+        refresh-mark
+        (record {
+          writer = role;
+          value = λ h. refl;
+          busy = λ h. absurd (false≢true h);
+          session = narrowed-again (es .session);
+          confirms = λ a h. absurd (false≢true h);
+        })
+        (record {
+          number = q .number;
+          epoch = q .epoch;
+          nextOut = ap suc time;
+          nextIn = q .nextIn;
+          held = q .held;
+          live = λ h. record { value = v .value; phase = v .phase; holds = v .holds };
+          ready = λ h. absurd (true≢false (sym (pending-setup (es .state) h) ∙ n));
+          agreed = q .agreed;
+        })
+        (s-sends (L .inv) t (t + c .slave) (es .setup .offset) (es .since) (es .value .age) value (v .value) (v .phase)
+        refl refl (omega arith))
 
   -- ---- a frame of the log, at place k, that the master wrote
-  module _ (f : Fields) (body : List ℕ) (k : ℕ) (g : FoundAt f body l k) (masters : f .application ≡ false) where
+  module _ (f : Fields) (body : List ℕ) (k : ℕ) (g : Handed given f body l k) (masters : f .application ≡ false) where
     marked-who : at (marks l) k .who ≡ 0
-    marked-who = ap (λ (y : Mark). y .who) (the-mark f body l k g)
+    marked-who = ap (λ (y : Mark). y .who) (the-mark g)
         ∙ (λ i. cond (masters i) (cond (is (f .command) K.Refresh) 2 1) 0)
 
     marked-baseline : at (marks l) k .baseline ≡ f .baseline
-    marked-baseline = ap (λ (y : Mark). y .baseline) (the-mark f body l k g)
+    marked-baseline = ap (λ (y : Mark). y .baseline) (the-mark g)
 
     small-stamp : f .timestamp < span
-    small-stamp = let z = L .inv .log .stamped k (in-log f body l k g) .small in let y =
-        (marked-stamp f body l k g) in omega arith
+    small-stamp = let z = L .inv .log .stamped k (in-log g) .small in let y = marked-stamp g in omega arith
+
+    -- where it has the slave's number
+    marked-own : isSame (sessionOf es) (f .subconnection) ≡ true → at (marks l) k .session ≡ suc (L .slave .number)
+    marked-own h = marked-session g ∙ ap numbered (sym (session-eq (sessionOf es) (f .subconnection) h)) ∙ nu
 
     module _ (a : isAbove (es .timestamps .accepted) (f .timestamp) ≡ true) where
       next-below : L .slave .nextIn ≤ at (marks l) k .stamp
-      next-below = let z = above-top (es .timestamps .accepted) (f .timestamp) a in let y =
-          (marked-stamp f body l k g) in let o = L .relS .nextIn in omega arith
+      next-below =
+          let z = above-top (es .timestamps .accepted) (f .timestamp) a in
+          let y = marked-stamp g in
+          let o = L .relS .nextIn in
+          omega arith
 
       -- S-Disconnect: no reply
-      pub heard-s : Linked c sm ss (t + c .slave) l em (endedBy es (f .timestamp)) tm ts
+      pub heard-s : AtS l (endedBy es (f .timestamp)) ts
       heard-s =
           let q = L .relS in
-          record {
-            master = L .master;
-            slave = record {
-              nextOut = L .slave .nextOut;
-              nextIn = suc (at (marks l) k .stamp);
-              held = L .slave .held;
-              phase = restS;
-            };
-            setM = L .setM;
-            setS = L .setS;
-            relM = L .relM;
-            relS = record {
-              nextOut = q .nextOut;
-              nextIn = ap suc (sym (marked-stamp f body l k g));
-              held = q .held;
-              live = λ h. absurd (false≢true h);
-              ready = λ h. absurd (false≢true h);
-              agreed = λ h. absurd (false≢true h);
-            };
-            honest = L .honest;
-            inv = s-hears (termsOf c sm ss) (small-of c sm ss p) k (in-log f body l k g) marked-who next-below (L .inv);
-          }
+          become (endedBy es (f .timestamp)) (L .setS)
+          (idle (endedBy es (f .timestamp)) (heardS (L .slave) (at (marks l) k .stamp) restS) (q .number) (q .epoch)
+          (q .nextOut) (ap suc (sym (marked-stamp g))) (q .held) refl)
+          (s-hears (L .inv) k next-below)
 
       -- a reply, with Busy or Error or neither, and its S-Data
       abbrev pub replying : Bool → Bool → List ℕ → Sent
       replying busy error said = record {
         slave = true;
         moment = t + c .slave;
+        loads = loads;
         fields = replyFields es f busy error;
         body = said;
         lent = none;
@@ -225,88 +268,67 @@ module _ (c : Clocks) (sm ss : Settings) (p : Paired sm ss) {l : List Sent} {em 
       module _ (busy error : Bool) (said : List ℕ) (may : busy ≡ true → mayBeBusy (f .command) ≡ true)
           (n : is (f .command) K.Refresh ≡ false) where
         reply-mark : markOf (replying busy error said)
-            ≡ mark 1 (codeOf (f .command)) (at (marks l) k .stamp) 0 (t + c .slave) said
+            ≡ replyS (L .slave) (codeOf (f .command)) (at (marks l) k .stamp) (t + c .slave) said
         reply-mark =
             let s : f .timestamp % span ≡ at (marks l) k .stamp = mod-eq-of-lt small-stamp
-            ∙ sym (marked-stamp f body l k g) in
-            λ i. mark (cond (n i) 2 1) (codeOf (f .command)) (s i) 0 (t + c .slave) said
+            ∙ sym (marked-stamp g) in
+            λ i. mark (cond (n i) 2 1) (codeOf (f .command)) (s i) 0 (t + c .slave) said (nu i) (ep i)
 
         reply-honest : Honest sm (replying busy error said)
         reply-honest = record {
           writer = refl;
           value = λ h. absurd (true≢false (sym h ∙ n));
           busy = may;
+          session = narrowed-again (es .session);
           confirms = λ a h. absurd (true≢false a);
         }
 
         replied : (e : Endpoint) (phase : SPhase) → e .settings ≡ ss
-            → let S : Slave = record {
-              nextOut = L .slave .nextOut;
-              nextIn = suc (at (marks l) k .stamp);
-              held = L .slave .held;
-              phase =
-                  phase;
-            } in
-            RelS sm e ts S
-            → Inv (termsOf c sm ss) (t + c .slave)
-            (snoc (marks l) (mark 1 (codeOf (f .command)) (at (marks l) k .stamp) 0 (t + c .slave) said))
+            → let S : Slave = heardS (L .slave) (at (marks l) k .stamp) phase in RelS sm loads e ts S
+            → Inv TM TS (t + c .slave) given
+            (snoc (marks l) (replyS (L .slave) (codeOf (f .command)) (at (marks l) k .stamp) (t + c .slave) said))
             (L .master) S
-            → Linked c sm ss (t + c .slave) (l ++ (replying busy error said ∷ [])) em e tm ts
+            → AtS (l ++ (replying busy error said ∷ [])) e ts
         replied e phase s r v =
-            let S : Slave = record {
-              nextOut = L .slave .nextOut;
-              nextIn = suc (at (marks l) k .stamp);
-              held = L .slave .held;
-              phase =
-                  phase;
-            } in
-            record {
-              master = L .master;
-              slave = S;
-              setM = L .setM;
-              setS = s;
-              relM = L .relM;
-              relS = r;
-              honest = honest-snoc sm l (replying busy error said) (L .honest) reply-honest;
-              inv = subst (λ (x : List Mark). Inv (termsOf c sm ss) (t + c .slave) x (L .master) S)
-                  (sym (marks-snoc l (replying busy error said) ∙ ap (snoc (marks l)) reply-mark)) v;
-            }
+            wrote e (replying busy error said) _ (heardS (L .slave) (at (marks l) k .stamp) phase) s reply-mark
+            reply-honest r v
 
         -- the slave rests after its reply
-        replied-rest : (e : Endpoint) → e .settings ≡ ss → topOf (e .timestamps .sent) ≡ topOf (es .timestamps .sent)
+        replied-rest : (e : Endpoint) → e .settings ≡ ss → sessionOf e ≡ sessionOf es
+            → topOf (e .timestamps .sent) ≡ topOf (es .timestamps .sent)
             → topOf (e .timestamps .accepted) ≡ suc (f .timestamp) → Unfixed (e .state)
             → (isEstablished (e .state) ≡ true → e .settings .roundtrip ≡ sm .roundtrip)
-            → Linked c sm ss (t + c .slave) (l ++ (replying busy error said ∷ [])) em e tm ts
-        replied-rest e s o i u a =
+            → AtS (l ++ (replying busy error said ∷ [])) e ts
+        replied-rest e s m o i u a =
             let q = L .relS in
             replied e restS s
             (record {
+              number = m ∙ q .number;
+              epoch = q .epoch;
               nextOut = o ∙ q .nextOut;
-              nextIn = i ∙ ap suc (sym (marked-stamp f body l k g));
+              nextIn = i ∙ ap suc (sym (marked-stamp g));
               held = q .held;
               live = λ z. absurd (true≢false (sym z ∙ u .0));
               ready = λ z. absurd (true≢false (sym z ∙ u .1));
               agreed = a;
             })
-            (s-replies (termsOf c sm ss) (small-of c sm ss p) (t + c .slave) k (codeOf (f .command)) said restS refl
-            (in-log f body l k g) marked-who next-below tt (L .inv))
+            (s-replies (L .inv) (t + c .slave) k (codeOf (f .command)) said restS refl
+            (in-log g) marked-who next-below tt)
 
       -- Busy 0
       plain : false ≡ true → mayBeBusy (f .command) ≡ true
       plain h = absurd (false≢true h)
 
       pub unequal-s : is (f .command) K.Refresh ≡ false
-          → Linked c sm ss (t + c .slave) (l ++ (replying false true (replyData es (f .command) false body) ∷ [])) em
-          (endedBy es (f .timestamp)) tm ts
+          → AtS (l ++ (replying false true (replyData es (f .command) false body) ∷ [])) (endedBy es (f .timestamp)) ts
       unequal-s n = replied-rest false true (replyData es (f .command) false body) plain n (endedBy es (f .timestamp))
-          (L .setS) refl refl (refl, refl) (λ h. absurd (false≢true h))
+          (L .setS) refl refl refl (refl, refl) (λ h. absurd (false≢true h))
 
       -- S-WriteErrorInfo: its reply repeats its error record
       pub reported-s : is (f .command) K.Refresh ≡ false → (s : State) → isEstablished s ≡ false
-          → Linked c sm ss (t + c .slave) (l ++ (replying false false body ∷ [])) em
-          (inState s (endedBy es (f .timestamp))) tm ts
+          → AtS (l ++ (replying false false body ∷ [])) (inState s (endedBy es (f .timestamp))) ts
       reported-s n s u = replied-rest false false body plain n (inState s (endedBy es (f .timestamp))) (L .setS) refl
-          refl (not-established s u) (λ h. absurd (true≢false (sym h ∙ u)))
+          refl refl (not-established s u) (λ h. absurd (true≢false (sym h ∙ u)))
 
       -- a request that is done
       module _ (d : RequestTaken es t f body) (x : isExpired es t ≡ false) (n : is (f .command) K.Refresh ≡ false) where
@@ -333,16 +355,19 @@ module _ (c : Clocks) (sm ss : Settings) (p : Paired sm ss) {l : List Sent} {em 
             (λ q.
             let e = is-eq (f .command) K.ConfirmNetwork q in
             let own = d .contents (ap (λ (y : Command). is y K.InvokeFunc) e) ∙ ap (setupData (es .settings)) e in
-            let theirs = L .honest k (g .there) .confirms (ap (λ (y : Fields). y .application) (g .fields) ∙ masters)
-            (ap (λ (y : Fields). is (y .command) K.ConfirmNetwork) (g .fields) ∙ q) in
-            sym (roundtrip-in (es .settings)) ∙ ap (λ (b : List ℕ). wordAt b 4) (sym own ∙ sym (g .bodies) ∙ theirs)
+            let at-k = g .found in
+            let theirs = L .honest k (at-k .there) .confirms
+            (ap (λ (y : Fields). y .application) (at-k .fields) ∙ masters)
+            (ap (λ (y : Fields). is (y .command) K.ConfirmNetwork) (at-k .fields) ∙ q) in
+            sym (roundtrip-in (es .settings))
+            ∙ ap (λ (b : List ℕ). wordAt b 4) (sym own ∙ sym (at-k .bodies) ∙ theirs)
             ∙ roundtrip-in sm)
             (λ n. L .relS .agreed (stays-established (f .command) n
             (sym (ap isEstablished (to (f .command) refl)) ∙ h) (es .state) (d .turn)))
 
         -- S-RefreshReady: s2
         ready-s : f .command ≡ K.RefreshReady
-            → Linked c sm ss (t + c .slave) (l ++ (replying busy false said ∷ [])) em (advancedOf es t f) tm ts
+            → AtS (l ++ (replying busy false said ∷ [])) (advancedOf es t f) ts
         ready-s e =
             let q = L .relS in
             let s2 = to K.RefreshReady e in
@@ -350,20 +375,22 @@ module _ (c : Clocks) (sm ss : Settings) (p : Paired sm ss) {l : List Sent} {em 
             (λ (y : Command). measuredBy y t (es .setup .measured)) e in
             replied busy false said may n (advancedOf es t f) (armed t) (L .setS)
             (record {
+              number = q .number;
+              epoch = q .epoch;
               nextOut = q .nextOut;
-              nextIn = ap suc (sym (marked-stamp f body l k g));
+              nextIn = ap suc (sym (marked-stamp g));
               held = q .held;
               live = λ z. absurd (false≢true (sym (ap (λ (y : State). isState y Refresh) s2) ∙ z));
               ready = λ z. record { phase = ap armed (sym m2); since = sym m2 };
               agreed = agrees;
             })
-            (s-arms (termsOf c sm ss) (small-of c sm ss p) t (t + c .slave) k (codeOf (f .command)) said
-            refl refl (omega arith) (in-log f body l k g) marked-who
-            ((marked-code f body l k g) ∙ ap codeOf e) next-below (L .inv))
+            (s-arms (L .inv) t (t + c .slave) k (codeOf (f .command)) said refl refl (omega arith) (in-log g)
+            marked-who (marked-code g ∙ ap codeOf e) next-below
+            (marked-own (d .session (ap (λ (y : Command). is y K.Connect) e))) (marked-travels g))
 
         -- S-RefreshGO: ts_offset
         go-s : f .command ≡ K.RefreshGo
-            → Linked c sm ss (t + c .slave) (l ++ (replying busy false said ∷ [])) em (advancedOf es t f) tm ts
+            → AtS (l ++ (replying busy false said ∷ [])) (advancedOf es t f) ts
         go-s e =
             let q = L .relS in
             let s2 = to K.RefreshGo e in
@@ -376,32 +403,34 @@ module _ (c : Clocks) (sm ss : Settings) (p : Paired sm ss) {l : List Sent} {em 
             let R : es .settings .roundtrip ≡ ss .roundtrip = ap (λ (y : Settings). y .roundtrip) (L .setS) in
             let off : offsetFrom (at (marks l) k .stamp) (at (marks l) k .baseline) (es .setup .measured) ≡
             advancedOf es t f .setup .offset =
-            (λ j. offsetFrom ((marked-stamp f body l k g) j) (marked-baseline j) (es .setup .measured))
+            (λ j. offsetFrom (marked-stamp g j) (marked-baseline j) (es .setup .measured))
             ∙ sym (ap (λ (y : Command). cond (is y K.RefreshGo)
             (offsetFrom (f .timestamp) (f .baseline) (es .setup .measured)) (es .setup .offset)) e) in
             replied busy false said may n (advancedOf es t f)
             (liveS (offsetFrom (at (marks l) k .stamp) (at (marks l) k .baseline) (es .setup .measured)) t 0 none)
             (L .setS)
             (record {
+              number = q .number;
+              epoch = q .epoch;
               nextOut = q .nextOut;
-              nextIn = ap suc (sym (marked-stamp f body l k g));
+              nextIn = ap suc (sym (marked-stamp g));
               held = q .held;
               live = λ z. record { value = none; phase = ap (λ (y : ℕ). liveS y t 0 none) off; holds = refl };
               ready = λ z. absurd (false≢true (sym (ap (λ (y : State). isState y RefreshPending) s2) ∙ z));
               agreed = agrees;
             })
-            (s-goes (termsOf c sm ss) (small-of c sm ss p) t (t + c .slave) k (codeOf (f .command))
+            (s-goes (L .inv) t (t + c .slave) k (codeOf (f .command))
             (es .setup .measured) said (r .phase) refl refl (omega arith)
-            (in-log f body l k g) marked-who ((marked-code f body l k g) ∙ ap codeOf e) next-below (L .inv))
+            (in-log g) marked-who (marked-code g ∙ ap codeOf e) next-below)
 
         plain-s : (q : Command) → f .command ≡ q → Unfixed (targetOf q)
-            → Linked c sm ss (t + c .slave) (l ++ (replying busy false said ∷ [])) em (advancedOf es t f) tm ts
+            → AtS (l ++ (replying busy false said ∷ [])) (advancedOf es t f) ts
         plain-s q e u =
-            replied-rest busy false said may n (advancedOf es t f) (L .setS) refl refl
+            replied-rest busy false said may n (advancedOf es t f) (L .setS) refl refl refl
             (subst Unfixed (sym (to q e)) u) agrees
 
         by-command : (q : Command) → f .command ≡ q
-            → Linked c sm ss (t + c .slave) (l ++ (replying busy false said ∷ [])) em (advancedOf es t f) tm ts
+            → AtS (l ++ (replying busy false said ∷ [])) (advancedOf es t f) ts
         by-command K.Connect e = plain-s K.Connect e (refl, refl)
         by-command K.ConfirmNetwork e = plain-s K.ConfirmNetwork e (refl, refl)
         by-command K.VerifyStation e = plain-s K.VerifyStation e (refl, refl)
@@ -413,21 +442,20 @@ module _ (c : Clocks) (sm ss : Settings) (p : Paired sm ss) {l : List Sent} {em 
         by-command K.Refresh e = absurd (true≢false (sym (ap (λ (y : Command). is y K.Refresh) e) ∙ n))
         by-command K.Disconnect e = plain-s K.Disconnect e (refl, refl)
 
-        advanced-s : Linked c sm ss (t + c .slave) (l ++ (replying busy false said ∷ [])) em (advancedOf es t f) tm ts
+        advanced-s : AtS (l ++ (replying busy false said ∷ [])) (advancedOf es t f) ts
         advanced-s = by-command (f .command) refl
 
         -- held back: the slave rests after its Busy reply too
         deferred-s : isHeldBack es (f .command) ≡ true
-            → Linked c sm ss (t + c .slave) (l ++ (replying busy false said ∷ [])) em (deferredOf es t f) tm ts
+            → AtS (l ++ (replying busy false said ∷ [])) (deferredOf es t f) ts
         deferred-s b =
             let w = and-right (es .station .notready) (waitsForStation (f .command)) b in
-            replied-rest busy false said may n (deferredOf es t f) (L .setS) refl refl
+            replied-rest busy false said may n (deferredOf es t f) (L .setS) refl refl refl
             (held-from (f .command) w (es .state) (d .turn)) (L .relS .agreed)
 
         abbrev Answered : Bool → Type 0
         Answered held =
-            Linked c sm ss (t + c .slave) (l ++ (replying busy false said ∷ [])) em
-            (cond held (deferredOf es t f) (advancedOf es t f)) tm ts
+            AtS (l ++ (replying busy false said ∷ [])) (cond held (deferredOf es t f) (advancedOf es t f)) ts
 
         pub answered-s : Answered (isHeldBack es (f .command))
         answered-s =
@@ -435,12 +463,12 @@ module _ (c : Clocks) (sm ss : Settings) (p : Paired sm ss) {l : List Sent} {em 
             (λ b. subst Answered (sym b) advanced-s)
 
     -- an S-Refresh of the master
-    module _ (d : RefreshTaken es t (f .timestamp) body) (x : isExpired es t ≡ false)
+    module _ (d : RefreshTaken es t (f .subconnection) (f .timestamp) body) (x : isExpired es t ≡ false)
         (r : is (f .command) K.Refresh ≡ true) where
       reckoned : ageOf es t (f .timestamp) ≡ minus ((t + es .setup .offset) % span) (at (marks l) k .stamp)
       reckoned =
           ap (λ (y : ℕ). minus y (f .timestamp)) time
-          ∙ ap (minus ((t + es .setup .offset) % span)) (sym (marked-stamp f body l k g))
+          ∙ ap (minus ((t + es .setup .offset) % span)) (sym (marked-stamp g))
 
       young : countedAge (minus ((t + es .setup .offset) % span) (at (marks l) k .stamp)) ≤ ss .age
       young =
@@ -452,69 +480,92 @@ module _ (c : Clocks) (sm ss : Settings) (p : Paired sm ss) {l : List Sent} {em 
       pub rises-s : ts ≤ k
       rises-s =
           let q = L .relS in
-          let z = held-rises (termsOf c sm ss) (small-of c sm ss p) 0 (L .slave .nextIn) (L .slave .held) k
-          (L .inv .log) (L .inv .slave .held) (in-log f body l k g) marked-who (next-below (d .above)) in
+          let z = held-rises-s (L .inv) k (in-log g) marked-who (next-below (d .above)) (marked-own (d .session))
+          (marked-travels g) in
           let h = q .held in
           omega arith
 
-      pub refreshed-s : Linked c sm ss (t + c .slave) l em (refreshedOf es t (f .timestamp) (paddedOf body)) tm (suc k)
+      pub refreshed-s : AtS l (refreshedOf es t (f .timestamp) (paddedOf body)) (suc k)
       refreshed-s =
           let q = L .relS in
           let v = q .live (d .refresh) in
           let n = refresh-not-setup (es .state) (d .refresh) in
           let u = refresh-timer es t x (d .refresh) in
           let I : es .settings .interval ≡ ss .interval = ap (λ (y : Settings). y .interval) (L .setS) in
-          let b = marked-body f body l k g in
-          record {
-            master = L .master;
-            slave = record {
-              nextOut = L .slave .nextOut;
-              nextIn = suc (at (marks l) k .stamp);
-              held = suc k;
-              phase =
-                  liveS (es .setup .offset) t
-                  (countedAge (minus ((t + es .setup .offset) % span) (at (marks l) k .stamp)))
-                  (some (at (marks l) k .body));
+          let b = marked-body g in
+          become (refreshedOf es t (f .timestamp) (paddedOf body)) (L .setS)
+          (record {
+            number = q .number;
+            epoch = q .epoch;
+            nextOut = q .nextOut;
+            nextIn = ap suc (sym (marked-stamp g));
+            held = refl;
+            live = λ z. record {
+              value = some body;
+              phase = λ j. liveS (es .setup .offset) t (countedAge (sym reckoned j)) (some (b j));
+              holds = (refl, refl, d .width);
             };
-            setM = L .setM;
-            setS = L .setS;
-            relM = L .relM;
-            relS = record {
-              nextOut = q .nextOut;
-              nextIn = ap suc (sym (marked-stamp f body l k g));
-              held = refl;
-              live = λ z. record {
-                value = some body;
-                phase = λ j. liveS (es .setup .offset) t (countedAge (sym reckoned j)) (some (b j));
-                holds = (refl, refl, d .width);
-              };
-              ready = λ z. absurd (true≢false (sym (pending-setup (es .state) z) ∙ n));
-              agreed = q .agreed;
-            };
-            honest = L .honest;
-            inv = s-takes (termsOf c sm ss) (small-of c sm ss p) t (t + c .slave) (es .setup .offset) (es .since)
-                (es .value .age) k (v .value) (v .phase) refl refl (omega arith)
-                (in-log f body l k g) marked-who ((marked-code f body l k g) ∙ eqb-true (codeOf (f .command)) 255 r)
-                (next-below (d .above)) young (L .inv);
-          }
+            ready = λ z. absurd (true≢false (sym (pending-setup (es .state) z) ∙ n));
+            agreed = q .agreed;
+          })
+          (s-takes (L .inv) t (t + c .slave) (es .setup .offset) (es .since) (es .value .age) k (v .value) (v .phase)
+          refl refl (omega arith) (in-log g) marked-who (marked-code g ∙ eqb-true (codeOf (f .command)) 255 r)
+          (next-below (d .above)) young)
 
   -- ---- a show that is not fail-safe
   module _ (x : isExpired es t ≡ false) (n : isFailSafe es ≡ false) where
-    pub shown-s : ShownAt (marks l) 0 ts (t + c .slave) (heldAge es t) (marginAt true ss) (shownOf es)
+    pub shown-s : ShownAt (marks l) 0 ts (t + c .slave) (heldAge es t) (marginAt true (es .settings))
+        (shownOf es)
     shown-s =
-        let T = termsOf c sm ss in
         let v = L .relS .live (in-refresh es n) in
-        let w : LiveS T (t + c .slave) (marks l) (L .slave .nextIn) (L .slave .held) (es .setup .offset) (es .since)
+        let w : LiveS TM TS (t + c .slave) (marks l) (L .slave .nextIn) (L .slave .held) (es .setup .offset) (es .since)
         (es .value .age) (v .value) =
-        subst (SPh T (t + c .slave) (marks l) (L .slave .nextIn) (L .slave .held)) (v .phase) (L .inv .slave .phase) in
+        subst (SPh TM TS (t + c .slave) (marks l) (L .slave .epoch) (L .slave .nextIn) (L .slave .held)) (v .phase)
+        (L .inv .slave .phase) in
         let u = refresh-timer es t x (in-refresh es n) in
         let i : es .settings .interval ≡ ss .interval = ap (λ (y : Settings). y .interval) (L .setS) in
         let r : es .settings .roundtrip ≡ ss .roundtrip = ap (λ (y : Settings). y .roundtrip) (L .setS) in
+        let o : es .settings .age ≡ ss .age = ap (λ (y : Settings). y .age) (L .setS) in
         let a = L .relS .agreed (refresh-established (es .state) (in-refresh es n)) in
-        let s = p .ticksS .age in
-        let s′ = p .ticksS .interval in
-        held-shown es (marks l) 0 (L .slave .nextIn) ts (w .m) t (t + c .slave) (ss .interval) (marginS T)
-        (marginAt true ss) (v .value) (L .slave .held) n (v .holds) (L .relS .held) (L .inv .slave .held) (w .value)
-        (λ k z. L .inv .log .stamped k z .past) (pace-hold T (es .since) (w .m) t (t + c .slave) (w .at′) refl)
-        (elder T (es .since) (w .m) t (t + c .slave) (w .at′) refl (w .by-now)) (omega arith)
+        let s = L .inv .smallS .age in
+        let s′ = L .inv .smallS .hold in
+        held-shown es (marks l) (HeldByS (L .slave .epoch) (L .slave .nextIn)) 0 ts (w .m) t (t + c .slave)
+        (ss .interval) (marginS TM TS) (marginAt true (es .settings)) (v .value) (L .slave .held) n (v .holds)
+        (L .relS .held) (L .inv .slave .held) (λ y f. (f .who, f .code)) (w .value)
+        (λ k z. L .inv .log .stamped k z .past) (pace-hold TS (es .since) (w .m) t (t + c .slave) (w .at′) refl)
+        (elder TS (es .since) (w .m) t (t + c .slave) (w .at′) refl (w .by-now)) (omega arith)
         (record { most = omega arith; low = omega arith; high = omega arith; small = omega arith })
+
+-- ---- the slave is loaded again: its settings, its number and its clock are others, and nothing is remembered at its
+-- end but what it took
+pub loaded-s : {c : Clocks} {sm ss : Settings} {loads : ℕ} {given : List Grant} {now : ℕ} {l : List Sent}
+    {em es : Endpoint} {tm ts : ℕ} → Linked c sm ss loads given now l em es tm ts
+    → (s : Settings) → Paired sm s → (number constant : ℕ)
+    → Linked (record { master = c .master; slave = constant }) sm s (suc loads) (grant number (suc loads) ∷ given) now l
+    em (freshOf s number) tm ts
+loaded-s {c} {sm} {ss} {loads} {given} {now} {l} L s p number constant =
+    let q = L .relS in
+    let n = number % 65536 in
+    let TM = termsOf (c .master) sm in
+    let TS = termsOf constant s in
+    record {
+      master = L .master;
+      slave = loadedS (L .slave) n;
+      paired = p;
+      setM = L .setM;
+      setS = refl;
+      relM = L .relM;
+      relS = record {
+        number = ap (λ (b : Bool). narrowed (sessionFrom b number)) (p .slave);
+        epoch = ap suc (q .epoch);
+        nextOut = refl;
+        nextIn = refl;
+        held = q .held;
+        live = λ h. absurd (false≢true h);
+        ready = λ h. absurd (false≢true h);
+        agreed = λ h. absurd (false≢true h);
+      };
+      honest = L .honest;
+      inv = subst (λ (k : ℕ). Inv TM TS now (granted n (suc k) ∷ given) (marks l) (L .master) (loadedS (L .slave) n))
+          (sym (q .epoch)) (s-load (L .inv) TS (small-of constant s (p .ticksS)) n);
+    }

@@ -1,29 +1,32 @@
--- The log of entries and its marks: one more at the end; the last place of a frame.
+-- The log of entries and its marks: one more at the end; the last place of a frame; what is known of a frame that is
+-- handed over.
 use mathlib.Core.Path.{_≡_, refl, sym, ap, subst, _∙_}
-use mathlib.Core.Bool.{Bool, true, false, _&&_, cond, Bool·beq, false≢true}
+use mathlib.Core.Bool.{Bool, true, false, _&&_, _||_, not, cond, Bool·beq, false≢true}
+use mathlib.Core.Logic.{⊎-elim}
 use mathlib.Core.List.{List, [], _∷_, _++_}
-use Prim.Native.Nat.{ℕ, zero, suc, _+_, _<_}
+use Prim.Native.Nat.{ℕ, zero, suc, _+_, _≤_, _<_}
 use native.Mathlib.Nat.{not-suc-le-zero, le-of-suc-le-suc}
 use native.Mathlib.Numerals.{add-one}
 use native.Mathlib.Omega.{arith}
 use native.Mathlib.Decide.{decLt}
-use lib.Dec.{eqb}
+use lib.Dec.{eqb, leb}
 use lib.ListN.{length, length-append, List·getD-append}
 use lib.Seq.{getD-append-seam}
-use borrow.Author.Tests.{eqb-true}
+use borrow.Author.Tests.{eqb-true, eq-eqb, leb-true}
 use Rattle.frame.specs.declared.Command.{Command}
 use Rattle.frame.specs.declared.Subconnection.{Subconnection}
 use Rattle.frame.specs.declared.Subconnection.the-variants.{Absent, Number}
 use Rattle.frame.specs.declared.Fields.{Fields}
-use Rattle.frame.specs.Control.{codeOf, commandOf, is, subconnectionBits}
+use Rattle.frame.specs.Control.{codeOf, commandOf, is, isSame}
 use Rattle.words.specs.Bytes.{same}
 use mathlib.Mathlib.Data.Bool.Basic.{and-elim-left as and-left, and-elim-right as and-right}
 use Rattle.words.proofs.Alike.{same-eq}
 use Rattle.frame.proofs.Digits.{command-of-code}
 use Rattle.endpoint.specs.declared.Settings.{Settings}
-use Rattle.link.specs.Runs.{Sent, noSent, sentAt, sameFields, lastFrom, lastOf}
+use Rattle.link.specs.Runs.{Sent, noSent, sentAt, sameFields, lastFrom, lastOf, Grant, mayTravel}
 use Rattle.link.proofs.Marks.{Mark, mark, size, at, snoc}
-use Rattle.link.proofs.Relation.{whoOf, markOf, marks, Honest}
+use Rattle.link.proofs.Invariant.{Given, Travels}
+use Rattle.link.proofs.Relation.{numbered, whoOf, markOf, marks, Honest}
 
 -- ---- marks
 pub marks-snoc : (l : List Sent) (w : Sent) → marks (l ++ (w ∷ [])) ≡ snoc (marks l) (markOf w)
@@ -73,11 +76,11 @@ beq-eq false false h = refl
 pub is-eq : (a b : Command) → is a b ≡ true → a ≡ b
 is-eq a b h = sym (command-of-code a) ∙ ap commandOf (eqb-true (codeOf a) (codeOf b) h) ∙ command-of-code b
 
-subconnection-eq : (a b : Subconnection) → eqb (subconnectionBits a) (subconnectionBits b) ≡ true → a ≡ b
-subconnection-eq Absent Absent h = refl
-subconnection-eq Absent (Number n) h = let z = eqb-true 0 (65536 + n) h in absurd (omega arith)
-subconnection-eq (Number n) Absent h = let z = eqb-true (65536 + n) 0 h in absurd (omega arith)
-subconnection-eq (Number n) (Number m) h =
+pub session-eq : (a b : Subconnection) → isSame a b ≡ true → a ≡ b
+session-eq Absent Absent h = refl
+session-eq Absent (Number n) h = let z = eqb-true 0 (65536 + n) h in absurd (omega arith)
+session-eq (Number n) Absent h = let z = eqb-true (65536 + n) 0 h in absurd (omega arith)
+session-eq (Number n) (Number m) h =
     let z = eqb-true (65536 + n) (65536 + m) h in
     let y : n ≡ m = omega arith in
     ap Number y
@@ -91,7 +94,7 @@ fields-eq f g h =
     let h4 = and-right (Bool·beq (f .error) (g .error)) _ h3 in
     let h5 = and-right (Bool·beq (f .sequence) (g .sequence)) _ h4 in
     let h6 = and-right (Bool·beq (f .application) (g .application)) _ h5 in
-    let h7 = and-right (eqb (subconnectionBits (f .subconnection)) (subconnectionBits (g .subconnection))) _ h6 in
+    let h7 = and-right (isSame (f .subconnection) (g .subconnection)) _ h6 in
     let h8 = and-right (eqb (f .connection) (g .connection)) _ h7 in
     let h9 = and-right (eqb (f .timestamp) (g .timestamp)) _ h8 in
     let p0 = is-eq (f .command) (g .command) (and-left (is (f .command) (g .command)) _ h) in
@@ -100,8 +103,8 @@ fields-eq f g h =
     let p3 = beq-eq (f .error) (g .error) (and-left (Bool·beq (f .error) (g .error)) _ h3) in
     let p4 = beq-eq (f .sequence) (g .sequence) (and-left (Bool·beq (f .sequence) (g .sequence)) _ h4) in
     let p5 = beq-eq (f .application) (g .application) (and-left (Bool·beq (f .application) (g .application)) _ h5) in
-    let p6 = subconnection-eq (f .subconnection) (g .subconnection)
-    (and-left (eqb (subconnectionBits (f .subconnection)) (subconnectionBits (g .subconnection))) _ h6) in
+    let p6 = session-eq (f .subconnection) (g .subconnection)
+    (and-left (isSame (f .subconnection) (g .subconnection)) _ h6) in
     let p7 = eqb-true (f .connection) (g .connection) (and-left (eqb (f .connection) (g .connection)) _ h7) in
     let p8 = eqb-true (f .timestamp) (g .timestamp) (and-left (eqb (f .timestamp) (g .timestamp)) _ h8) in
     let p9 = eqb-true (f .baseline) (g .baseline) h9 in
@@ -162,17 +165,44 @@ found-at f body l k e = go (found-from f body l 0 0)
     go (before z) = absurd (omega arith)
     go (here j z p) = let q : j ≡ k = omega arith in subst (FoundAt f body l) q p
 
--- ---- the mark of a frame that was found
-module _ (f : Fields) (body : List ℕ) (l : List Sent) (k : ℕ) (g : FoundAt f body l k) where
+-- ---- a number that was given, and a frame that carries it: document 02's premise as it is computed
+within : (s : Subconnection) (n a b : ℕ) → (not (isSame s (Number n)) || leb a b) ≡ true → numbered s ≡ suc n → a ≤ b
+within Absent n a b h e = absurd (omega arith)
+within (Number m) n a b h e =
+    let q : isSame (Number m) (Number n) ≡ true = eq-eqb (65536 + m) (65536 + n) (omega arith) in
+    leb-true a b (rw q at h)
+
+travels-told : (g : List Grant) (s : Subconnection) (loads : ℕ) → mayTravel g s loads ≡ true → (n e : ℕ) → Given g n e
+    → numbered s ≡ suc n → e ≤ loads
+unfolding mayTravel
+travels-told [] s loads h n e x q = absurd x
+travels-told (y ∷ g) s loads h n e x q =
+    let first = not (isSame s (Number (y .number))) || leb (y .loads) loads in
+    ⊎-elim
+    (λ (z : (y .number ≡ n) × (y .loads ≡ e)).
+    let a = z .0 in
+    let b = z .1 in
+    let o = within s (y .number) (y .loads) loads (and-left first _ h) (omega arith) in
+    omega arith)
+    (λ (z : Given g n e). travels-told g s loads (and-right first _ h) n e z q) x
+
+-- ---- a frame that is handed over, by the place that it stands for; it may still travel
+pub record Handed (given : List Grant) (f : Fields) (body : List ℕ) (l : List Sent) (k : ℕ) : Type 0 where
+  pub found : FoundAt f body l k
+  pub travels : mayTravel given (f .subconnection) (sentAt l k .loads) ≡ true
+
+-- its mark
+module _ {given : List Grant} {f : Fields} {body : List ℕ} {l : List Sent} {k : ℕ} (g : Handed given f body l k) where
   pub in-log : k < size (marks l)
-  in-log = let z = g .there in let y = size-marks l in omega arith
+  in-log = let z = g .found .there in let y = size-marks l in omega arith
 
   pub the-mark : at (marks l) k ≡ mark (whoOf f) (codeOf (f .command)) (f .timestamp) (f .baseline)
-      (sentAt l k .moment) body
+      (sentAt l k .moment) body (numbered (f .subconnection)) (sentAt l k .loads)
   the-mark =
-      at-marks l k (g .there)
-      ∙ (λ i. mark (whoOf (g .fields i)) (codeOf (g .fields i .command)) (g .fields i .timestamp)
-      (g .fields i .baseline) (sentAt l k .moment) (g .bodies i))
+      let q = g .found .fields in
+      at-marks l k (g .found .there)
+      ∙ (λ i. mark (whoOf (q i)) (codeOf (q i .command)) (q i .timestamp) (q i .baseline) (sentAt l k .moment)
+      (g .found .bodies i) (numbered (q i .subconnection)) (sentAt l k .loads))
 
   pub marked-code : at (marks l) k .code ≡ codeOf (f .command)
   marked-code = ap (λ (y : Mark). y .code) the-mark
@@ -182,3 +212,12 @@ module _ (f : Fields) (body : List ℕ) (l : List Sent) (k : ℕ) (g : FoundAt f
 
   pub marked-body : at (marks l) k .body ≡ body
   marked-body = ap (λ (y : Mark). y .body) the-mark
+
+  pub marked-session : at (marks l) k .session ≡ numbered (f .subconnection)
+  marked-session = ap (λ (y : Mark). y .session) the-mark
+
+  pub marked-travels : Travels given (at (marks l) k)
+  marked-travels n e x s =
+      let z = ap (λ (y : Mark). y .epoch) the-mark in
+      let o = travels-told given (f .subconnection) (sentAt l k .loads) (g .travels) n e x (sym marked-session ∙ s) in
+      omega arith

@@ -1,60 +1,71 @@
--- The theorem's premises can be met: a line starts, its station at times not ready, performs a command, refreshes both
--- ways, and shows both values. All of it is computed.
+-- The theorem's premises can be met, over loadings of the slave too: a line starts, its station at times not ready,
+-- performs a command, refreshes both ways and shows both values; its slave is loaded again while frames travel, with a
+-- wrong interval at first, takes an old S-Connect request, starts again under another session number, refuses an old
+-- S-Refresh, and shows both values once more. All of it is computed.
 use mathlib.Core.Path.{_≡_, refl, ap}
-use mathlib.Core.Bool.{Bool, true, false}
+use mathlib.Core.Bool.{Bool, true, false, cond}
 use mathlib.Core.List.{List, [], _∷_, _++_}
 use Prim.Native.Nat.{ℕ, _+_}
 use lib.Dec.{lit≤}
 use Rattle.frame.specs.declared.Command.{Command}
 use Rattle.frame.specs.declared.Command.the-variants as K
+use Rattle.frame.specs.declared.Subconnection.the-variants.{Absent, Number}
+use Rattle.frame.specs.declared.Fields.{Fields}
+use Rattle.frame.specs.Control.{is}
 use Rattle.endpoint.specs.declared.Settings.{Settings}
 use Rattle.steps.specs.Frames.{sentFields, ackFields, setupData, handedOver}
-use Rattle.steps.specs.Steps.{start, setNotReady, setResult, invoke, Call, act, send, deliver, show}
-use Rattle.link.specs.Runs.{Clocks, Event, sameFields, lastFrom, lastOf, Show, shown, Link}
+use Rattle.steps.specs.Steps.{start, stop, restart, setNotReady, setResult, invoke, Call, act, send, deliver, show}
+use Rattle.link.specs.Runs.{Clocks, Event, called, loaded, sameFields, lastFrom, lastOf, mayTravel, sentAt}
+use Rattle.link.specs.Runs.{Show, shown, Link}
 use Rattle.link.specs.Fresh.{Paired, runOf}
 
-settings : Bool → Settings
-settings slave = record {
+settings : Bool → ℕ → Settings
+settings slave interval = record {
   connection = 0x01020103;
   slave = slave;
   masterwords = 1;
   slavewords = 1;
-  interval = 100;
+  interval = interval;
   roundtrip = 50;
   age = 50;
   station = 7;
 }
 
 at-master : ℕ → Call → Event
-at-master t call = record { slave = false; clock = t; call = call }
+at-master t call = called false t call
 
 at-slave : ℕ → Call → Event
-at-slave t call = record { slave = true; clock = t; call = call }
+at-slave t call = called true t call
 
--- the slave's clock is 5,000 ticks ahead of the master's
+-- the slave's clock is 5,000 ticks ahead of the master's; once it is loaded again 100, and then 10
 clocks : Clocks
 clocks = record { master = 5000; slave = 0 }
 
--- a request written at t, taken by the slave, and its reply, Busy or not, taken by the master one tick later each
-answered : Bool → ℕ → Command → ℕ → List ℕ → List ℕ → List Event
-answered busy t k baseline request reply =
+-- a master's frame in the session n, with the timestamp t
+sends : ℕ → Command → ℕ → ℕ → Fields
+sends n k t baseline = sentFields k false (cond (is k K.Connect) Absent (Number n)) 0x01020103 t baseline
+
+-- a request written at t, taken by the slave, and its reply, with Busy or Error or neither, taken by the master, one
+-- tick later each
+answered : (ahead n : ℕ) (busy error : Bool) (t : ℕ) (k : Command) (baseline : ℕ) (request reply : List ℕ) → List Event
+answered ahead n busy error t k baseline request reply =
     at-master t (send [])
-    ∷ at-slave (5001 + t) (deliver (sentFields k false 0x01020103 t baseline) request)
-    ∷ at-master (2 + t) (deliver (ackFields k busy false 0x01020103 t) reply) ∷ []
+    ∷ at-slave (ahead + 1 + t) (deliver (sends n k t baseline) request)
+    ∷ at-master (2 + t) (deliver (ackFields k busy error (Number n) 0x01020103 t) reply) ∷ []
 
 -- a setup request, whose reply repeats its data
-repeated : Bool → ℕ → Command → ℕ → List Event
-repeated busy t k baseline =
-    answered busy t k baseline (setupData (settings false) k) (setupData (settings false) k)
+repeated : (ahead n : ℕ) (busy error : Bool) (t : ℕ) (k : Command) (baseline : ℕ) → List Event
+repeated ahead n busy error t k baseline =
+    let words = setupData (settings false 100) k in answered ahead n busy error t k baseline words words
 
-exchange : ℕ → Command → ℕ → List Event
-exchange t k baseline = repeated false t k baseline
+exchange : (ahead n t : ℕ) (k : Command) (baseline : ℕ) → List Event
+exchange ahead n t k baseline = repeated ahead n false false t k baseline
 
--- the same while the station is not ready
+-- the same in the first session, while the station is not ready
 postponed : ℕ → Command → List Event
 postponed t k =
     (at-slave (5000 + t) (act (setNotReady true)) ∷ [])
-    ++ (repeated true t k 0 ++ (at-slave (5002 + t) (act (setNotReady false)) ∷ []))
+    ++ (repeated 5000 7 true false t k 0 ++ (at-slave (5002 + t) (act (setNotReady false)) ∷ []))
 
 -- a queued command, first with Busy, since the station has no result yet, and then with its result
 command : List ℕ
@@ -66,33 +77,64 @@ result = 9 ∷ 8 ∷ 7 ∷ 6 ∷ []
 performed : ℕ → List Event
 performed t =
     (at-master t (act (invoke 7 [])) ∷ [])
-    ++ (answered true t K.InvokeFunc 0 command command
+    ++ (answered 5000 7 true false t K.InvokeFunc 0 command command
     ++ ((at-slave (5002 + t) (act (setResult result)) ∷ [])
-    ++ answered false (3 + t) K.InvokeFunc 0 command result))
+    ++ answered 5000 7 false false (3 + t) K.InvokeFunc 0 command result))
 
-line : List Event
-line =
+-- a value each way, and both shown
+refreshed : (ahead n t : ℕ) (down up : List ℕ) → List Event
+refreshed ahead n t down up =
+    at-master t (send down)
+    ∷ at-slave (ahead + 1 + t) (deliver (sends n K.Refresh t 0) down)
+    ∷ at-slave (ahead + 10 + t) show
+    ∷ at-slave (ahead + 11 + t) (send up)
+    ∷ at-master (12 + t) (deliver (sentFields K.Refresh true (Number n) 0x01020103 (12 + t) 0) up)
+    ∷ at-master (20 + t) show ∷ []
+
+-- the session 7
+before : List Event
+before =
     (at-master 9 (act start) ∷ [])
-    ++ (exchange 10 K.Connect 0
+    ++ (exchange 5000 7 10 K.Connect 0
     ++ (postponed 15 K.ConfirmNetwork
-    ++ (exchange 20 K.ConfirmNetwork 0
+    ++ (exchange 5000 7 20 K.ConfirmNetwork 0
     ++ (postponed 25 K.VerifyStation
-    ++ (exchange 30 K.VerifyStation 0
+    ++ (exchange 5000 7 30 K.VerifyStation 0
     ++ (performed 33
     ++ (postponed 39 K.RefreshReady
-    ++ (exchange 42 K.RefreshReady 0
-    ++ (exchange 50 K.RefreshGo 6
-    ++ (at-master 60 (send (1 ∷ 2 ∷ 3 ∷ 4 ∷ []))
-    ∷ at-slave 5061 (deliver (sentFields K.Refresh false 0x01020103 60 0) (1 ∷ 2 ∷ 3 ∷ 4 ∷ []))
-    ∷ at-slave 5070 show
-    ∷ at-slave 5071 (send (5 ∷ 6 ∷ 7 ∷ 8 ∷ []))
-    ∷ at-master 72 (deliver (sentFields K.Refresh true 0x01020103 72 0) (5 ∷ 6 ∷ 7 ∷ 8 ∷ []))
-    ∷ at-master 80 show ∷ []))))))))))
+    ++ (exchange 5000 7 42 K.RefreshReady 0
+    ++ (exchange 5000 7 50 K.RefreshGo 6
+    ++ refreshed 5000 7 60 (1 ∷ 2 ∷ 3 ∷ 4 ∷ []) (5 ∷ 6 ∷ 7 ∷ 8 ∷ []))))))))))
+
+-- the slave is loaded with the number 8 and a wrong interval: it takes the old S-Connect request of 10, and ends at
+-- S-InitConfirmNetPrm
+between : List Event
+between =
+    (loaded (settings true 77) 8 4900
+    ∷ at-slave 190 (deliver (sends 7 K.Connect 10 0) (setupData (settings false 100) K.Connect))
+    ∷ at-master 91 (act stop)
+    ∷ at-master 92 (act (restart 0))
+    ∷ at-master 93 (act start) ∷ [])
+    ++ (exchange 100 8 95 K.Connect 0 ++ repeated 100 8 false true 100 K.ConfirmNetwork 0)
+
+-- then with the right one and the number 9
+after : List Event
+after =
+    (loaded (settings true 100) 9 4990
+    ∷ at-master 109 (act (restart 0))
+    ∷ at-master 109 (act start) ∷ [])
+    ++ (exchange 10 9 110 K.Connect 0
+    ++ (exchange 10 9 113 K.ConfirmNetwork 0
+    ++ (exchange 10 9 116 K.VerifyStation 0
+    ++ (exchange 10 9 119 K.RefreshReady 0
+    ++ (exchange 10 9 125 K.RefreshGo 4
+    ++ ((at-slave 138 (deliver (sends 7 K.Refresh 60 0) (1 ∷ 2 ∷ 3 ∷ 4 ∷ [])) ∷ [])
+    ++ refreshed 10 9 130 (1 ∷ 1 ∷ 2 ∷ 3 ∷ []) (5 ∷ 8 ∷ 13 ∷ 21 ∷ [])))))))
 
 run : Link
-run = runOf (settings false) (settings true) clocks line
+run = runOf (settings false 100) (settings true 100) 7 clocks (before ++ (between ++ after))
 
-paired : Paired (settings false) (settings true)
+paired : Paired (settings false 100) (settings true 100)
 unfolding settings
 paired = record {
   master = refl;
@@ -102,15 +144,20 @@ paired = record {
 }
 
 values : List Show
-values = shown true 5070 (1 ∷ 2 ∷ 3 ∷ 4 ∷ []) 11 21 21 ∷ shown false 5080 (5 ∷ 6 ∷ 7 ∷ 8 ∷ []) 8 22 22 ∷ []
+values =
+    shown true (settings true 100) 5070 (1 ∷ 2 ∷ 3 ∷ 4 ∷ []) 11 21 21
+    ∷ shown false (settings false 100) 5080 (5 ∷ 6 ∷ 7 ∷ 8 ∷ []) 8 22 22
+    ∷ shown true (settings true 100) 5140 (1 ∷ 1 ∷ 2 ∷ 3 ∷ []) 11 39 39
+    ∷ shown false (settings false 100) 5150 (5 ∷ 8 ∷ 13 ∷ 21 ∷ []) 8 40 40
+    ∷ []
 
 -- both facts at once, so that the run is computed once
 abbrev told : Link → Bool × List Show
 told l = (l .allowed, l .shows)
 
 computed : told run ≡ (true, values)
-unfolding run line performed command result postponed exchange repeated answered clocks at-master at-slave settings
-    values setupData handedOver sameFields lastFrom lastOf
+unfolding run before between after refreshed performed command result postponed exchange repeated answered sends clocks
+    at-master at-slave settings values setupData handedOver sameFields lastFrom lastOf mayTravel sentAt
 computed = refl
 
 allowed : run .allowed ≡ true

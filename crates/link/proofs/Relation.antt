@@ -10,8 +10,10 @@ use lib.Dec.{ltb}
 use lib.ListN.{length}
 use borrow.Author.Tests.{ltb-true, ltb-false}
 use Rattle.frame.specs.declared.Command.the-variants as K
+use Rattle.frame.specs.declared.Subconnection.{Subconnection}
+use Rattle.frame.specs.declared.Subconnection.the-variants.{Absent, Number}
 use Rattle.frame.specs.declared.Fields.{Fields}
-use Rattle.frame.specs.Control.{is, codeOf, mayBeBusy}
+use Rattle.frame.specs.Control.{is, codeOf, mayBeBusy, narrowed}
 use Rattle.words.specs.Words.{wordAt}
 use Rattle.endpoint.specs.declared.Settings.{Settings}
 use Rattle.endpoint.specs.declared.State.the-variants.{Refresh, RefreshPending}
@@ -25,36 +27,27 @@ use Rattle.endpoint.specs.Table.{isState, isSetup}
 use Rattle.endpoint.specs.Time.{span, half, masterTime, isAbove, isTooFarAhead, countedAge, isTooLate, isExpired}
 use Rattle.endpoint.specs.Time.{timeOf}
 use Rattle.endpoint.specs.Updates.{endpointOf, withQueue}
-use Rattle.steps.specs.Frames.{setupData, paddedOf, showWidth}
-use Rattle.link.specs.Runs.{Clocks, Sent, sentAt}
+use Rattle.steps.specs.Frames.{setupData, paddedOf, showWidth, sessionOf}
+use Rattle.steps.specs.Laws.{Ticks}
+use Rattle.link.specs.Runs.{Clocks, Sent, sentAt, Grant}
 use Rattle.link.specs.Fresh.{Paired}
 use Rattle.link.proofs.Ages.{compared, le-or-lt}
 use Rattle.link.proofs.Marks.{Mark, mark}
-use Rattle.link.proofs.Invariant.{limit, Terms, Small, asked, got, liveM, Master, armed, liveS, Slave, Inv}
+use Rattle.link.proofs.Invariant.{limit, Terms, Small, asked, got, liveM, Master}
+use Rattle.link.proofs.Invariant.{armed, liveS, Slave, Inv}
 use Rattle.link.proofs.Codes.{isEstablished}
 
 -- ---- what the invariant's numbers are
-abbrev pub termsOf : Clocks → Settings → Settings → Terms
-termsOf c sm ss = record {
-  cm = c .master;
-  cs = c .slave;
-  tripM = sm .roundtrip;
-  tripS = ss .roundtrip;
-  holdM = sm .interval;
-  holdS = ss .interval;
-  ageM = sm .age;
-  ageS = ss .age;
-}
+abbrev pub termsOf : ℕ → Settings → Terms
+termsOf shift s = record { shift = shift; trip = s .roundtrip; hold = s .interval; age = s .age }
 
-pub small-of : (c : Clocks) (sm ss : Settings) → Paired sm ss → Small (termsOf c sm ss)
-small-of c sm ss p = record {
-  tripM = p .ticksM .roundtrip;
-  tripS = p .ticksS .roundtrip;
-  holdM = p .ticksM .interval;
-  holdS = p .ticksS .interval;
-  ageM = p .ticksM .age;
-  ageS = p .ticksS .age;
-}
+pub small-of : (shift : ℕ) (s : Settings) → Ticks s → Small (termsOf shift s)
+small-of shift s p = record { trip = p .roundtrip; hold = p .interval; age = p .age }
+
+-- one above the session number in a frame, 0 where it has none
+abbrev pub numbered : Subconnection → ℕ
+numbered Absent = 0
+numbered (Number n) = suc n
 
 -- 0 the master, 1 the slave's reply, 2 the slave's S-Refresh
 abbrev pub whoOf : Fields → ℕ
@@ -62,7 +55,7 @@ whoOf f = cond (f .application) (cond (is (f .command) K.Refresh) 2 1) 0
 
 abbrev pub markOf : Sent → Mark
 markOf w = mark (whoOf (w .fields)) (codeOf (w .fields .command)) (w .fields .timestamp) (w .fields .baseline)
-    (w .moment) (w .body)
+    (w .moment) (w .body) (numbered (w .fields .subconnection)) (w .loads)
 
 unfoldable pub marks : List Sent → List Mark
 marks l = map markOf l
@@ -80,7 +73,7 @@ above-top (At r) s h = ltb-true r s h
 -- over; nothing that the relation turns on
 abbrev pub toldOf : Endpoint → Station → Queue → Words → Words → Endpoint
 toldOf e s q w r =
-    endpointOf (e .settings) (e .state) (e .since) (e .timestamps) (withQueue q e .setup) s w r (e .value)
+    endpointOf (e .settings) (e .state) (e .session) (e .since) (e .timestamps) (withQueue q e .setup) s w r (e .value)
 
 -- ---- the value held
 abbrev pub Holds : Settings → Value → Option (List ℕ) → Type 0
@@ -102,6 +95,7 @@ pub record GotAt (e : Endpoint) (m : Master) : Type 0 where
   pub since : e .since ≡ e .setup .measured
 
 pub record RelM (e : Endpoint) (took : ℕ) (m : Master) : Type 0 where
+  pub session : numbered (sessionOf e) ≡ m .session
   pub nextOut : topOf (e .timestamps .sent) ≡ m .nextOut
   pub nextIn : topOf (e .timestamps .accepted) ≡ m .nextIn
   pub held : took ≡ m .held
@@ -119,7 +113,9 @@ pub record ArmedAt (e : Endpoint) (s : Slave) : Type 0 where
   pub phase : s .phase ≡ armed (e .setup .measured)
   pub since : e .since ≡ e .setup .measured
 
-pub record RelS (sm : Settings) (e : Endpoint) (took : ℕ) (s : Slave) : Type 0 where
+pub record RelS (sm : Settings) (loads : ℕ) (e : Endpoint) (took : ℕ) (s : Slave) : Type 0 where
+  pub number : sessionOf e ≡ Number (s .number)
+  pub epoch : loads ≡ s .epoch
   pub nextOut : topOf (e .timestamps .sent) ≡ s .nextOut
   pub nextIn : topOf (e .timestamps .accepted) ≡ s .nextIn
   pub held : took ≡ s .held
@@ -129,12 +125,13 @@ pub record RelS (sm : Settings) (e : Endpoint) (took : ℕ) (s : Slave) : Type 0
   pub agreed : isEstablished (e .state) ≡ true → e .settings .roundtrip ≡ sm .roundtrip
 
 -- ---- both, and the log
--- an entry's frame tells its writer; an S-Refresh that a send was lent its body; Busy stands where it may; and the
--- master's S-InitConfirmNetPrm has its own settings
+-- an entry's frame tells its writer; an S-Refresh that a send was lent its body; Busy stands where it may; a session
+-- number has 16 bits; and the master's S-InitConfirmNetPrm has its own settings
 pub record Honest (sm : Settings) (w : Sent) : Type 0 where
   pub writer : w .fields .application ≡ w .slave
   pub value : is (w .fields .command) K.Refresh ≡ true → w .lent ≡ some (w .body)
   pub busy : w .fields .busy ≡ true → mayBeBusy (w .fields .command) ≡ true
+  pub session : narrowed (w .fields .subconnection) ≡ w .fields .subconnection
   pub confirms : w .fields .application ≡ false → is (w .fields .command) K.ConfirmNetwork ≡ true
       → w .body ≡ setupData sm K.ConfirmNetwork
 
@@ -143,16 +140,23 @@ pub roundtrip-in : (s : Settings) → wordAt (setupData s K.ConfirmNetwork) 4 �
 unfolding setupData
 roundtrip-in s = omega arith
 
-pub record Linked (c : Clocks) (sm ss : Settings) (now : ℕ) (l : List Sent) (em es : Endpoint) (tm ts : ℕ) : Type 0
-  where
-    pub master : Master
-    pub slave : Slave
-    pub setM : em .settings ≡ sm
-    pub setS : es .settings ≡ ss
-    pub relM : RelM em tm master
-    pub relS : RelS sm es ts slave
-    pub honest : (i : ℕ) → i < length l → Honest sm (sentAt l i)
-    pub inv : Inv (termsOf c sm ss) now (marks l) master slave
+-- a session number as an endpoint's frames carry it has no more to lose
+pub narrowed-again : (s : Subconnection) → narrowed (narrowed s) ≡ narrowed s
+narrowed-again Absent = refl
+narrowed-again (Number n) = let z : n % 65536 % 65536 ≡ n % 65536 = omega arith in ap Number z
+
+-- c and ss are the slave's clock and settings as it was last loaded, after so many loads
+pub record Linked (c : Clocks) (sm ss : Settings) (loads : ℕ) (given : List Grant) (now : ℕ) (l : List Sent)
+    (em es : Endpoint) (tm ts : ℕ) : Type 0 where
+  pub master : Master
+  pub slave : Slave
+  pub paired : Paired sm ss
+  pub setM : em .settings ≡ sm
+  pub setS : es .settings ≡ ss
+  pub relM : RelM em tm master
+  pub relS : RelS sm loads es ts slave
+  pub honest : (i : ℕ) → i < length l → Honest sm (sentAt l i)
+  pub inv : Inv (termsOf (c .master) sm) (termsOf (c .slave) ss) now given (marks l) master slave
 
 -- ---- timers that have not expired, and times
 in-setup : (a b x y : Bool) → ((a && x) || (b && y)) ≡ false → a ≡ true → x ≡ false

@@ -16,21 +16,26 @@ use Rattle.frame.specs.Control.{is, codeOf}
 use Rattle.endpoint.specs.declared.Settings.{Settings}
 use Rattle.endpoint.specs.Time.{boundOf}
 use Rattle.link.specs.Runs.{Sent, noSent, sentAt, Show, shown, noShow, showAt}
-use Rattle.link.specs.Fresh.{Paired, Aged, ItsSend}
+use Rattle.link.specs.Fresh.{Aged, ItsSend}
 use Rattle.link.proofs.Marks.{Mark, at}
 use Rattle.link.proofs.Relation.{whoOf, marks, Honest}
 use Rattle.link.proofs.Entries.{size-marks, at-marks}
 use Rattle.link.proofs.Shown.{ShownAt, marginAt}
 
-pub record HasSend (sm ss : Settings) (log : List Sent) (x : Show) : Type 0 where
+pub record HasSend (log : List Sent) (x : Show) : Type 0 where
   pub place : ℕ
   pub sent : x .sent ≡ suc place
   pub early : place < x .written
   pub known : x .written ≤ length log
-  pub fits : ItsSend (cond (x .slave) ss sm) x (sentAt log place)
+  pub fits : ItsSend x (sentAt log place)
 
-pub record ShowsInv (sm ss : Settings) (log : List Sent) (tm ts : ℕ) (shows : List Show) : Type 0 where
-  pub its : (i : ℕ) → i < length shows → HasSend sm ss log (showAt shows i)
+-- the master's settings are those of the first loading, and so are the slave's where it was not loaded again
+abbrev pub Own : Settings → Settings → ℕ → Show → Type 0
+Own sm ss loads x = (x .slave ≡ true → loads ≡ 0) → x .settings ≡ cond (x .slave) ss sm
+
+pub record ShowsInv (sm ss : Settings) (loads : ℕ) (log : List Sent) (tm ts : ℕ) (shows : List Show) : Type 0 where
+  pub its : (i : ℕ) → i < length shows → HasSend log (showAt shows i)
+  pub own : (i : ℕ) → i < length shows → Own sm ss loads (showAt shows i)
   pub below : (i : ℕ) → i < length shows → showAt shows i .sent ≤ cond (showAt shows i .slave) ts tm
   pub order : (i j : ℕ) → i < j → j < length shows → showAt shows i .slave ≡ showAt shows j .slave
       → showAt shows i .sent ≤ showAt shows j .sent
@@ -43,10 +48,20 @@ cond-le : (b : Bool) (ts ts′ tm tm′ : ℕ) → ts ≤ ts′ → tm ≤ tm′
 cond-le true ts ts′ tm tm′ h k = h
 cond-le false ts ts′ tm tm′ h k = k
 
-module _ (sm ss : Settings) where
+-- the slave is loaded again
+pub reloaded : {sm ss : Settings} {loads : ℕ} {log : List Sent} {tm ts : ℕ} {shows : List Show}
+    → ShowsInv sm ss loads log tm ts shows → ShowsInv sm ss (suc loads) log tm ts shows
+reloaded v = record {
+  its = v .its;
+  own = λ i h f. v .own i h (λ s. let z = f s in absurd (omega arith));
+  below = v .below;
+  order = v .order;
+}
+
+module _ (sm ss : Settings) (loads : ℕ) where
   -- the log grows, and what was taken rises
   pub grow : (log ext : List Sent) (tm ts tm′ ts′ : ℕ) (shows : List Show) → tm ≤ tm′ → ts ≤ ts′
-      → ShowsInv sm ss log tm ts shows → ShowsInv sm ss (log ++ ext) tm′ ts′ shows
+      → ShowsInv sm ss loads log tm ts shows → ShowsInv sm ss loads (log ++ ext) tm′ ts′ shows
   grow log ext tm ts tm′ ts′ shows h k v = record {
     its = λ i j.
         let s = v .its i j in
@@ -58,9 +73,9 @@ module _ (sm ss : Settings) where
           sent = s .sent;
           early = s .early;
           known = omega arith;
-          fits = subst (ItsSend (cond (showAt shows i .slave) ss sm) (showAt shows i))
-              (sym (entry-kept log ext (s .place) (omega arith))) (s .fits);
+          fits = subst (ItsSend (showAt shows i)) (sym (entry-kept log ext (s .place) (omega arith))) (s .fits);
         };
+    own = v .own;
     below = λ i j. let a = v .below i j in let b = cond-le (showAt shows i .slave) ts ts′ tm tm′ k h in omega arith;
     order = v .order;
   }
@@ -88,10 +103,11 @@ module _ (sm ss : Settings) where
               (sym (ap (showAt (shows ++ (x ∷ []))) e ∙ show-new)) p
         ]
 
-    pub add : HasSend sm ss log x → x .sent ≡ cond (x .slave) ts tm → ShowsInv sm ss log tm ts shows
-        → ShowsInv sm ss log tm ts (shows ++ (x ∷ []))
-    add s e v = record {
-      its = each-show (HasSend sm ss log) (v .its) s;
+    pub add : HasSend log x → Own sm ss loads x → x .sent ≡ cond (x .slave) ts tm
+        → ShowsInv sm ss loads log tm ts shows → ShowsInv sm ss loads log tm ts (shows ++ (x ∷ []))
+    add s o e v = record {
+      its = each-show (HasSend log) (v .its) s;
+      own = each-show (Own sm ss loads) (v .own) o;
       below = each-show (λ (y : Show). y .sent ≤ cond (y .slave) ts tm) (v .below) (omega arith);
       order = λ i j h k q. ordered i j h k q;
     }
@@ -136,13 +152,10 @@ pub writer-of : (slave : Bool) (f : Fields) → whoOf f ≡ cond slave 0 2 → f
 writer-of true f h = kind-slave (f .application) (is (f .command) K.Refresh) h
 writer-of false f h = kind-master (f .application) (is (f .command) K.Refresh) h
 
-role-at : {sm ss : Settings} → Paired sm ss → (slave : Bool) → cond slave ss sm .slave ≡ slave
-role-at p true = p .slave
-role-at p false = p .master
-
 -- how old it is; by cases on the role, so that arithmetic sees R and not a choice
 aged-at : (slave : Bool) (s : Settings) {l : List Mark} {kind took m f n : ℕ} {v : List ℕ} → s .slave ≡ slave
-    → (h : ShownAt l kind took m f (marginAt slave s) v) → Aged s (shown slave m v f took n) (at l (h .place) .moment)
+    → (h : ShownAt l kind took m f (marginAt slave s) v)
+    → Aged (shown slave s m v f took n) (at l (h .place) .moment)
 aged-at true s e h =
     let b : boundOf s ≡ s .age + s .interval = rw e (omega arith) in
     record { before = h .past; young = omega arith; low = omega arith; high = omega arith; most = omega arith }
@@ -150,11 +163,12 @@ aged-at false s e h =
     let b : boundOf s ≡ s .age + s .interval + s .roundtrip = rw e (omega arith) in
     record { before = h .past; young = omega arith; low = omega arith; high = omega arith; most = omega arith }
 
-pub sent-by : (sm ss : Settings) → Paired sm ss → (log : List Sent) (slave : Bool) (took m age : ℕ) (bytes : List ℕ)
+-- e are the settings of the end that shows it
+pub sent-by : (sm e : Settings) (log : List Sent) (slave : Bool) (took m age : ℕ) (bytes : List ℕ) → e .slave ≡ slave
     → ((i : ℕ) → i < length log → Honest sm (sentAt log i))
-    → ShownAt (marks log) (cond slave 0 2) took m age (marginAt slave (cond slave ss sm)) bytes
-    → HasSend sm ss log (shown slave m bytes age took (length log))
-sent-by sm ss p log slave took m age bytes honest s =
+    → ShownAt (marks log) (cond slave 0 2) took m age (marginAt slave e) bytes
+    → HasSend log (shown slave e m bytes age took (length log))
+sent-by sm e log slave took m age bytes role honest s =
     let k = s .place in
     let n : k < length log = let z = s .there in let y = size-marks log in omega arith in
     let q = at-marks log k n in
@@ -171,7 +185,7 @@ sent-by sm ss p log slave took m age bytes honest s =
         other = sym (h .writer) ∙ writer-of slave (sentAt log k .fields) w;
         refresh = r;
         value = h .value r ∙ ap some (sym (ap (λ (y : Mark). y .body) q) ∙ s .body);
-        aged = subst (Aged (cond slave ss sm) (shown slave m bytes age took (length log)))
-            (ap (λ (y : Mark). y .moment) q) (aged-at slave (cond slave ss sm) (role-at p slave) s);
+        aged = subst (Aged (shown slave e m bytes age took (length log))) (ap (λ (y : Mark). y .moment) q)
+            (aged-at slave e role s);
       };
     }

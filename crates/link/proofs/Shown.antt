@@ -18,7 +18,7 @@ use Rattle.steps.specs.Frames.{showWidth}
 use Rattle.steps.specs.Calls.{isFailSafe, heldOr, shownOf}
 use Rattle.steps.specs.Frames.{paddedOf}
 use Rattle.steps.proofs.Shows.{show-width-le}
-use Rattle.link.proofs.Marks.{Mark, size, at}
+use Rattle.link.proofs.Marks.{Mark, size, at, Each}
 use Rattle.link.proofs.Ages.{Pace}
 use Rattle.link.proofs.Invariant.{creep, Held, Margin, ValueOf}
 use Rattle.link.proofs.Relation.{Holds}
@@ -73,22 +73,24 @@ shown-is e b h v =
     ∙ front-padded b (showWidth (e .settings)) (v .2) (show-width-le (e .settings))
 
 -- a value taken at moment r, when the timer started, and shown at clock reading t and moment m
-pub held-shown : (e : Endpoint) (l : List Mark) (kind next took r t m i : ℕ) (a b : Margin) (v : Option (List ℕ))
-    (h : ℕ) → isFailSafe e ≡ false → Holds (e .settings) (e .value) v → took ≡ h → Held l kind next h
-    → ValueOf l h r (e .value .age) a v → ((k : ℕ) → k < size l → at l k .moment ≤ m)
+pub held-shown : (e : Endpoint) (l : List Mark) (P : Mark → Type 0) (kind took r t m i : ℕ) (a b : Margin)
+    (v : Option (List ℕ)) (h : ℕ) → isFailSafe e ≡ false → Holds (e .settings) (e .value) v → took ≡ h → Held P l h
+    → ((x : Mark) → P x → (x .who ≡ kind) × (x .code ≡ 255))
+    → ValueOf l h r (e .value .age) a v → Each (λ x. x .moment ≤ m) l
     → Pace creep (e .since) r t m → e .since ≤ t → t ≤ e .since + i → HeldFor i a b
     → ShownAt l kind took m (heldAge e t) b (shownOf e)
-held-shown e l kind next took r t m i a b none h n o q g w past p k late x =
+held-shown e l P kind took r t m i a b none h n o q g y w past p k late x =
     absurd (true≢false (sym (is-taken e n) ∙ o))
-held-shown e l kind next took r t m i a b (some v) zero n o q g w past p k late x = absurd w
-held-shown e l kind next took r t m i a b (some v) (suc j) n o q g w past p k late x =
+held-shown e l P kind took r t m i a b (some v) zero n o q g y w past p k late x = absurd w
+held-shown e l P kind took r t m i a b (some v) (suc j) n o q g y w past p k late x =
     let f : heldAge e t ≡ e .value .age + (t - e .since) = omega arith in
+    let z = y (at l j) (g .fits) in
     record {
       place = j;
       held = q;
       there = g .there;
-      who = g .fits .who;
-      code = g .fits .code;
+      who = z .0;
+      code = z .1;
       body = w .body ∙ sym (shown-is e v n o);
       past = past j (g .there);
       low = omega arith;

@@ -20,24 +20,25 @@ pub record Paired (sm ss : Settings) : Type 0 where
   pub ticksM : Ticks sm
   pub ticksS : Ticks ss
 
--- how old a shown value is that was sent at a moment; A, I and R are those of the end that shows it
-pub record Aged (s : Settings) (x : Show) (sent : ℕ) : Type 0 where
+-- how old a shown value is that was sent at a moment; A, I and R are those of the end that shows it, as it was last
+-- loaded
+pub record Aged (x : Show) (sent : ℕ) : Type 0 where
   -- no older than the bound: A + I at the slave, A + I + R at the master
   pub before : sent ≤ x .moment
-  pub young : x .moment ≤ sent + boundOf s
+  pub young : x .moment ≤ sent + boundOf (x .settings)
   -- the age that it is shown with: at the slave the true one or up to R above, at the master the true one or up to R
   -- below
-  pub low : x .moment ≤ sent + x .age + cond (x .slave) 0 (s .roundtrip)
-  pub high : sent + x .age ≤ x .moment + cond (x .slave) (s .roundtrip) 0
+  pub low : x .moment ≤ sent + x .age + cond (x .slave) 0 (x .settings .roundtrip)
+  pub high : sent + x .age ≤ x .moment + cond (x .slave) (x .settings .roundtrip) 0
   -- and at most A + I
-  pub most : x .age ≤ s .age + s .interval
+  pub most : x .age ≤ x .settings .age + x .settings .interval
 
 -- the send of a show: by the other end, an S-Refresh, lent the value shown, and not too old
-pub record ItsSend (s : Settings) (x : Show) (w : Sent) : Type 0 where
+pub record ItsSend (x : Show) (w : Sent) : Type 0 where
   pub other : w .slave ≡ not (x .slave)
   pub refresh : is (w .fields .command) K.Refresh ≡ true
   pub value : w .lent ≡ some (x .bytes)
-  pub aged : Aged s x (w .moment)
+  pub aged : Aged x (w .moment)
 
 pub record Fresh (sm ss : Settings) (l : Link) : Type 0 where
   -- each show's send was written before it: the frame of the S-Refresh that the showing end took last
@@ -45,19 +46,22 @@ pub record Fresh (sm ss : Settings) (l : Link) : Type 0 where
       → (1 ≤ showAt (l .shows) i .sent) × (showAt (l .shows) i .sent ≤ showAt (l .shows) i .written)
       × (showAt (l .shows) i .written ≤ length (l .log))
   pub its-send : (i k : ℕ) → i < length (l .shows) → showAt (l .shows) i .sent ≡ suc k
-      → ItsSend (cond (showAt (l .shows) i .slave) ss sm) (showAt (l .shows) i) (sentAt (l .log) k)
+      → ItsSend (showAt (l .shows) i) (sentAt (l .log) k)
   -- a later show at the same end never has an earlier send
   pub in-order : (i j : ℕ) → i < j → j < length (l .shows) → showAt (l .shows) i .slave ≡ showAt (l .shows) j .slave
       → showAt (l .shows) i .sent ≤ showAt (l .shows) j .sent
+  -- the master's settings are those of the first loading, and so are the slave's where it was not loaded again
+  pub own : (i : ℕ) → i < length (l .shows) → (showAt (l .shows) i .slave ≡ true → l .loads ≡ 0)
+      → showAt (l .shows) i .settings ≡ cond (showAt (l .shows) i .slave) ss sm
 
--- two endpoints just loaded, after a list of calls
-abbrev pub runOf : Settings → Settings → Clocks → List Event → Link
-runOf sm ss c vs = afterAll c (begun sm ss) vs
+-- two endpoints just loaded, after a list of calls and loadings of the slave
+abbrev pub runOf : Settings → Settings → ℕ → Clocks → List Event → Link
+runOf sm ss number c vs = afterAll (begun sm ss number c) vs
 
 -- demand 3, for every list that keeps to what it runs over
 abbrev pub AgeTheorem : Type 0
-AgeTheorem = (sm ss : Settings) (c : Clocks) (vs : List Event) → Paired sm ss → runOf sm ss c vs .allowed ≡ true
-    → Fresh sm ss (runOf sm ss c vs)
+AgeTheorem = (sm ss : Settings) (number : ℕ) (c : Clocks) (vs : List Event) → Paired sm ss
+    → runOf sm ss number c vs .allowed ≡ true → Fresh sm ss (runOf sm ss number c vs)
 
 -- an end has written no S-Refresh after a moment
 abbrev pub SilentSince : Bool → ℕ → Link → Type 0
@@ -67,8 +71,8 @@ SilentSince slave last l =
 
 -- then every show at the other end that is not fail-safe comes within the bound after it
 abbrev pub Silence : Type 0
-Silence = (sm ss : Settings) (c : Clocks) (vs : List Event) (slave : Bool) (last : ℕ) → Paired sm ss
-    → runOf sm ss c vs .allowed ≡ true
-    → SilentSince (not slave) last (runOf sm ss c vs)
-    → (i : ℕ) → i < length (runOf sm ss c vs .shows) → showAt (runOf sm ss c vs .shows) i .slave ≡ slave
-    → showAt (runOf sm ss c vs .shows) i .moment ≤ last + boundOf (cond slave ss sm)
+Silence = (sm ss : Settings) (number : ℕ) (c : Clocks) (vs : List Event) (slave : Bool) (last : ℕ) → Paired sm ss
+    → let l = runOf sm ss number c vs in
+    l .allowed ≡ true → SilentSince (not slave) last l
+    → (i : ℕ) → i < length (l .shows) → showAt (l .shows) i .slave ≡ slave
+    → showAt (l .shows) i .moment ≤ last + boundOf (showAt (l .shows) i .settings)

@@ -1,14 +1,16 @@
--- Two endpoints of one CID over a list of calls (document 01, "What demand 3 runs over"), with frames as fields and
--- bodies.
-use mathlib.Core.Bool.{Bool, true, false, _&&_, cond, Bool·beq}
+-- Two endpoints of one CID over a list of calls (document 01, "What demand 3 runs over") and loadings of the slave
+-- (document 02, note 8), with frames as fields and bodies.
+use mathlib.Core.Bool.{Bool, true, false, _&&_, _||_, not, cond, Bool·beq}
 use mathlib.Core.List.{List, [], _∷_, _++_}
 use mathlib.Core.Option.{Option, some, none}
-use Prim.Native.Nat.{ℕ, suc, _+_}
+use Prim.Native.Nat.{ℕ, suc, _+_, _-_, _%_}
 use lib.Dec.{eqb, leb}
 use lib.ListN.{length, getD}
 use Rattle.frame.specs.declared.Command.the-variants as K
+use Rattle.frame.specs.declared.Subconnection.{Subconnection}
+use Rattle.frame.specs.declared.Subconnection.the-variants.{Absent, Number}
 use Rattle.frame.specs.declared.Fields.{Fields}
-use Rattle.frame.specs.Control.{is, subconnectionBits}
+use Rattle.frame.specs.Control.{is, isSame}
 use Rattle.words.specs.Bytes.{same}
 use Rattle.endpoint.specs.declared.Settings.{Settings}
 use Rattle.endpoint.specs.Endpoint.{Endpoint}
@@ -19,10 +21,12 @@ use Rattle.transitions.specs.ByCall.{freshOf}
 use Rattle.steps.specs.Frames.{Written, nothing, frame, sentFields}
 use Rattle.steps.specs.Frames as W
 use Rattle.steps.specs.Calls.{Outcome, isFailSafe, shownOf}
-use Rattle.steps.specs.Steps.{Call, act, send, deliver, show, callOf}
+use Rattle.steps.specs.Steps.{Act, start, stop, restart, setNotReady, setResult, clearResult, setRecord, clearRecord}
+use Rattle.steps.specs.Steps.{invoke, readError, writeError, Call, act, send, deliver, show, callOf}
 
 -- ---- moments
--- a call's moment is its reading plus a constant of its end; document 01's D is the slave's constant less the master's
+-- a call's moment is its reading plus a constant of its end; document 01's D is the slave's constant less the master's.
+-- A loading begins the slave's clock anew, with another constant
 pub record Clocks : Type 0 where
   pub master : ℕ
   pub slave : ℕ
@@ -30,18 +34,20 @@ pub record Clocks : Type 0 where
 abbrev pub momentOf : Clocks → Bool → ℕ → ℕ
 momentOf c slave t = t + cond slave (c .slave) (c .master)
 
--- ---- calls
--- a call at the slave's end or the master's, with its clock reading
-pub record Event : Type 0 where
-  pub slave : Bool
-  pub clock : ℕ
-  pub call : Call
+-- ---- calls and loadings
+-- a call at the slave's end or the master's, with its clock reading; or the slave is loaded again: its settings, its
+-- session number, and the constant of its clock from then on
+pub data Event : Type 0 where
+  called : (slave : Bool) (clock : ℕ) → Call → Event
+  loaded : Settings → (number constant : ℕ) → Event
 
 -- ---- the frames written, oldest first
--- by whom, when, the fields and the body, and the value lent to the call: only a send is lent one
+-- by whom, when, after how many loadings of the slave, the fields and the body, and the value lent to the call: only a
+-- send is lent one
 pub record Sent : Type 0 where
   pub slave : Bool
   pub moment : ℕ
+  pub loads : ℕ
   pub fields : Fields
   pub body : List ℕ
   pub lent : Option (List ℕ)
@@ -51,7 +57,8 @@ abbrev pub noSent : Sent
 noSent = record {
   slave = false;
   moment = 0;
-  fields = sentFields K.Connect false 0 0 0;
+  loads = 0;
+  fields = sentFields K.Connect false Absent 0 0 0;
   body = [];
   lent = none;
 }
@@ -66,11 +73,11 @@ lentTo (deliver f body) = none
 lentTo show = none
 
 -- what is written for a user is no frame, whatever bytes it is
-abbrev pub logged : Bool → ℕ → Call → Written → List Sent
-logged slave m call nothing = []
-logged slave m call (frame f body) =
-    record { slave = slave; moment = m; fields = f; body = body; lent = lentTo call } ∷ []
-logged slave m call (W.value bytes) = []
+abbrev pub logged : Bool → ℕ → ℕ → Call → Written → List Sent
+logged slave m loads call nothing = []
+logged slave m loads call (frame f body) =
+    record { slave = slave; moment = m; loads = loads; fields = f; body = body; lent = lentTo call } ∷ []
+logged slave m loads call (W.value bytes) = []
 
 -- ---- the frame that a deliver hands over is named by its last place in the log
 unfoldable pub sameFields : Fields → Fields → Bool
@@ -81,7 +88,7 @@ sameFields f g =
     && (Bool·beq (f .error) (g .error)
     && (Bool·beq (f .sequence) (g .sequence)
     && (Bool·beq (f .application) (g .application)
-    && (eqb (subconnectionBits (f .subconnection)) (subconnectionBits (g .subconnection))
+    && (isSame (f .subconnection) (g .subconnection)
     && (eqb (f .connection) (g .connection)
     && (eqb (f .timestamp) (g .timestamp)
     && eqb (f .baseline) (g .baseline)))))))))
@@ -96,9 +103,47 @@ lastFrom n f body (w ∷ l) found =
 unfoldable pub lastOf : Fields → List ℕ → List Sent → ℕ
 lastOf f body l = lastFrom 0 f body l 0
 
+-- ---- the session numbers given to the slave
+-- a number, of 16 bits, and after how many loadings it was given, the first not counted
+pub record Grant : Type 0 where
+  pub number : ℕ
+  pub loads : ℕ
+
+abbrev pub grant : ℕ → ℕ → Grant
+grant number loads = record { number = number % 65536; loads = loads }
+
+-- a loading gives one, and a restart that is done
+abbrev pub givenBy : ℕ → Act → List Grant
+givenBy loads start = []
+givenBy loads stop = []
+givenBy loads (restart number) = grant number loads ∷ []
+givenBy loads (setNotReady b) = []
+givenBy loads (setResult body) = []
+givenBy loads clearResult = []
+givenBy loads (setRecord body) = []
+givenBy loads clearRecord = []
+givenBy loads (invoke word bytes) = []
+givenBy loads readError = []
+givenBy loads (writeError body) = []
+
+abbrev pub givenAfter : Bool → ℕ → Call → Answer → List Grant → List Grant
+givenAfter slave loads (act a) answer given = cond (slave && isDone answer) (givenBy loads a) [] ++ given
+givenAfter slave loads (send value) answer given = given
+givenAfter slave loads (deliver f body) answer given = given
+givenAfter slave loads show answer given = given
+
+-- "provided neither that number nor one given at a later restart is in any of those frames that still travels then": of
+-- a frame's number and the loadings before it, that no number which it carries was given after a later loading
+unfoldable pub mayTravel : List Grant → Subconnection → ℕ → Bool
+mayTravel [] session loads = true
+mayTravel (g ∷ gs) session loads =
+    (not (isSame session (Number (g .number))) || leb (g .loads) loads) && mayTravel gs session loads
+
 -- ---- what is shown
 pub record Show : Type 0 where
   pub slave : Bool
+  -- of the end that shows it, as it was last loaded
+  pub settings : Settings
   pub moment : ℕ
   pub bytes : List ℕ
   -- the age that it is shown with, in ticks
@@ -108,12 +153,31 @@ pub record Show : Type 0 where
   -- how many frames had been written by then
   pub written : ℕ
 
-abbrev pub shown : Bool → ℕ → List ℕ → ℕ → ℕ → ℕ → Show
-shown slave moment bytes age sent n =
-    record { slave = slave; moment = moment; bytes = bytes; age = age; sent = sent; written = n }
+abbrev pub shown : Bool → Settings → ℕ → List ℕ → ℕ → ℕ → ℕ → Show
+shown slave settings moment bytes age sent n = record {
+  slave = slave;
+  settings = settings;
+  moment = moment;
+  bytes = bytes;
+  age = age;
+  sent = sent;
+  written = n;
+}
+
+abbrev pub noSettings : Settings
+noSettings = record {
+  connection = 0;
+  slave = false;
+  masterwords = 0;
+  slavewords = 0;
+  interval = 0;
+  roundtrip = 0;
+  age = 0;
+  station = 0;
+}
 
 abbrev pub noShow : Show
-noShow = shown false 0 [] 0 0 0
+noShow = shown false noSettings 0 [] 0 0 0
 
 unfoldable pub showAt : List Show → ℕ → Show
 showAt l i = getD l i noShow
@@ -122,6 +186,11 @@ showAt l i = getD l i noShow
 pub record Link : Type 0 where
   pub master : Endpoint
   pub slave : Endpoint
+  -- the slave's is that of its last loading
+  pub clocks : Clocks
+  -- how often the slave was loaded again, and the session numbers given to it
+  pub loads : ℕ
+  pub given : List Grant
   pub log : List Sent
   pub shows : List Show
   -- one more than the place of the S-Refresh last taken at each end; 0: none
@@ -137,12 +206,13 @@ endpointAt l slave = cond slave (l .slave) (l .master)
 abbrev pub tookAt : Link → Bool → ℕ
 tookAt l slave = cond slave (l .slaveTook) (l .masterTook)
 
--- a deliver hands over a frame that was written
-abbrev pub mayDeliver : List Sent → Call → Bool
-mayDeliver l (act a) = true
-mayDeliver l (send value) = true
-mayDeliver l (deliver f body) = leb 1 (lastOf f body l)
-mayDeliver l show = true
+-- a deliver hands over a frame that was written, and may still travel
+abbrev pub mayDeliver : List Grant → List Sent → Call → Bool
+mayDeliver given l (act a) = true
+mayDeliver given l (send value) = true
+mayDeliver given l (deliver f body) =
+    leb 1 (lastOf f body l) && mayTravel given (f .subconnection) (sentAt l (lastOf f body l - 1) .loads)
+mayDeliver given l show = true
 
 -- one more than the place of what a call took, an S-Refresh that was done; else what was taken before
 abbrev pub tookBy : List Sent → Call → Answer → ℕ → ℕ
@@ -156,7 +226,7 @@ shownBy slave m t took n (act a) e = []
 shownBy slave m t took n (send value) e = []
 shownBy slave m t took n (deliver f body) e = []
 shownBy slave m t took n show e =
-    cond (isFailSafe e) [] (shown slave m (shownOf e) (heldAge e t) took n ∷ [])
+    cond (isFailSafe e) [] (shown slave (e .settings) m (shownOf e) (heldAge e t) took n ∷ [])
 
 -- the endpoint at an end, and the place last taken there, after a call at the slave's end or the master's
 abbrev pub endpointAfter : Bool → Link → Bool → Outcome → Endpoint
@@ -170,33 +240,59 @@ abbrev pub neverFalls : Link → ℕ → Bool
 neverFalls l m = leb (l .latest) m
 
 -- a call at an end with its reading, and what it came to
-abbrev pub afterCall : Clocks → Link → Bool → ℕ → Call → Outcome → Link
-afterCall c l slave t call o =
-    let m = momentOf c slave t in
+abbrev pub afterCall : Link → Bool → ℕ → Call → Outcome → Link
+afterCall l slave t call o =
+    let m = momentOf (l .clocks) slave t in
     record {
       master = endpointAfter false l slave o;
       slave = endpointAfter true l slave o;
-      log = l .log ++ logged slave m call (o .writes);
+      clocks = l .clocks;
+      loads = l .loads;
+      given = givenAfter slave (l .loads) call (o .answer) (l .given);
+      log = l .log ++ logged slave m (l .loads) call (o .writes);
       shows = l .shows ++ shownBy slave m t (tookAt l slave) (length (l .log)) call (o .endpoint);
       masterTook = tookAfter false l slave call o;
       slaveTook = tookAfter true l slave call o;
       latest = m;
-      allowed = l .allowed && (mayDeliver (l .log) call && (neverFalls l m && leb t lastReading));
+      allowed = l .allowed && (mayDeliver (l .given) (l .log) call && (neverFalls l m && leb t lastReading));
     }
 
-abbrev pub afterEvent : Clocks → Link → Event → Link
-afterEvent c l v =
-    afterCall c l (v .slave) (v .clock) (v .call) (callOf (endpointAt l (v .slave)) (v .clock) (v .call))
+-- settings of a slave, as a loaded list has them
+abbrev pub isSlaves : Settings → Bool
+isSlaves s = s .slave && (leb (s .interval) 65535 && (leb (s .roundtrip) 65535 && leb (s .age) 65535))
 
-abbrev pub afterAll : Clocks → Link → List Event → Link
-afterAll c l [] = l
-afterAll c l (v ∷ vs) = afterAll c (afterEvent c l v) vs
+-- the slave is loaded again: nothing is remembered at its end but what it took; a loading has no moment
+abbrev pub afterLoad : Link → Settings → ℕ → ℕ → Link
+afterLoad l s number constant = record {
+  master = l .master;
+  slave = freshOf s number;
+  clocks = record { master = l .clocks .master; slave = constant };
+  loads = suc (l .loads);
+  given = grant number (suc (l .loads)) ∷ l .given;
+  log = l .log;
+  shows = l .shows;
+  masterTook = l .masterTook;
+  slaveTook = l .slaveTook;
+  latest = l .latest;
+  allowed = l .allowed && isSlaves s;
+}
 
--- two endpoints just loaded
-abbrev pub begun : Settings → Settings → Link
-begun sm ss = record {
-  master = freshOf sm;
-  slave = freshOf ss;
+abbrev pub afterEvent : Link → Event → Link
+afterEvent l (called slave t k) = afterCall l slave t k (callOf (endpointAt l slave) t k)
+afterEvent l (loaded s number constant) = afterLoad l s number constant
+
+abbrev pub afterAll : Link → List Event → Link
+afterAll l [] = l
+afterAll l (v ∷ vs) = afterAll (afterEvent l v) vs
+
+-- two endpoints just loaded, the slave with a session number
+abbrev pub begun : Settings → Settings → ℕ → Clocks → Link
+begun sm ss number c = record {
+  master = freshOf sm number;
+  slave = freshOf ss number;
+  clocks = c;
+  loads = 0;
+  given = grant number 0 ∷ [];
   log = [];
   shows = [];
   masterTook = 0;

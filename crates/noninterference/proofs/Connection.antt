@@ -43,8 +43,9 @@ use Rattle.steps.specs.Frames.{paddedRecord, requestFields, refreshFields, disc
 use Rattle.steps.specs.Frames as W
 use Rattle.steps.specs.Calls.{Outcome, outcome, dropped, handFaults, commandData, keptRecord, recordWith, sendFaults}
 use Rattle.steps.specs.Calls.{sendOf, stopFaults, disconnectOf}
-use Rattle.steps.specs.Deliveries.{refreshFaults, isTurn, isWidth, isUsers, requestFaults, repliedOf, isResult}
-use Rattle.steps.specs.Deliveries.{repliesRecord, replyFaults, takeRefresh, takeRequest, takeReply, deliverOf}
+use Rattle.steps.specs.Deliveries.{refreshFaults, isTurn, lacksSession, isWidth, isUsers, requestFaults, repliedOf}
+use Rattle.steps.specs.Deliveries.{isResult, lacksNumber, repliesRecord, replyFaults, takeRefresh, takeRequest}
+use Rattle.steps.specs.Deliveries.{takeReply, deliverOf}
 use Rattle.steps.specs.Steps.{Act, start, stop, restart, setNotReady, setResult, clearResult, setRecord, clearRecord}
 use Rattle.steps.specs.Steps.{invoke, readError, writeError, actOf}
 use Rattle.steps.specs.Values.{handsRecord}
@@ -211,8 +212,8 @@ module _ (P : ErrorRecord → ErrorRecord) (one : OneToOne P) (c : Call) where
           let a = firstOf (stopFaults e t) in
           either (isDropped a) (λ k. dropping a)
           (λ k. stays Done (stoppedOf e t) (λ q. (quiet Q.Empty refl q, refl)) disconnects)
-      act-both restart n =
-          either (isTerminated (e .state)) (λ k. stays Done (restartedOf e) (λ q. (q, refl)) nothing)
+      act-both (restart number) n =
+          either (isTerminated (e .state)) (λ k. stays Done (restartedOf e number) (λ q. (q, refl)) nothing)
           (λ k. dropping (Dropped R.Turn))
       act-both (setNotReady r) n =
           either (e .settings .slave) (λ k. stays Done (withNotReady r e) (λ q. (q, refl)) nothing)
@@ -323,13 +324,15 @@ module _ (P : ErrorRecord → ErrorRecord) (one : OneToOne P) (c : Call) where
 
       -- S-Refresh carries no record
       refresh-both : is (f .command) K.Refresh ≡ true
-          → Both P c (takeRefresh e t (f .timestamp) b) (takeRefresh (held e) t (f .timestamp) b′)
+          → Both P c (takeRefresh e t (f .subconnection) (f .timestamp) b)
+          (takeRefresh (held e) t (f .subconnection) (f .timestamp) b′)
       refresh-both k =
           let n : carriesRecord f ≡ false = rw (is-command (f .command) K.Refresh k) in
-          let a = firstOf (refreshFaults e t (f .timestamp) (length b)) in
+          let session = f .subconnection in
+          let a = firstOf (refreshFaults e t session (f .timestamp) (length b)) in
           let next = refreshedOf e t (f .timestamp) (paddedOf b) in
-          subst (λ (l : List ℕ). Both P c (takeRefresh e t (f .timestamp) b) (takeRefresh (held e) t (f .timestamp) l))
-          (sym (H .plain n)) (record {
+          subst (λ (l : List ℕ). Both P c (takeRefresh e t session (f .timestamp) b)
+          (takeRefresh (held e) t session (f .timestamp) l)) (sym (H .plain n)) (record {
             answer = refl;
             writes = nothing;
             left = likes-left a (likes e (λ q. (q, refl))) ended (likes next (λ q. (q, refl)));
@@ -338,7 +341,8 @@ module _ (P : ErrorRecord → ErrorRecord) (one : OneToOne P) (c : Call) where
       -- ---- a request, at a slave: by what its tests look at
       request-answer : Bool → ℕ → Bool → Answer
       request-answer r n u =
-          firstOf (setupFaults (not (isTurn e (f .command))) (is (f .command) K.WriteErrorInfo && not r)
+          firstOf (setupFaults (not (isTurn e (f .command))) (lacksSession e f)
+          (is (f .command) K.WriteErrorInfo && not r)
           (not (isWidth (e .settings) (f .command) n)) (not (isAbove (e .timestamps .accepted) (f .timestamp)))
           (not (is (f .command) K.Disconnect || (isUsers (f .command) || u))))
 
@@ -503,7 +507,7 @@ module _ (P : ErrorRecord → ErrorRecord) (one : OneToOne P) (c : Call) where
 
         reply-answer : Bool → Bool → Bool → Answer
         reply-answer r w u =
-            firstOf (setupFaults (not turns) (repliesRecord (f .command) && not r)
+            firstOf (setupFaults (not turns) (lacksNumber e f) (repliesRecord (f .command) && not r)
             (not (is (f .command) K.ReadErrorInfo || w)) (not (answersTo (e .setup .pending) (f .timestamp)))
             (f .error || not (isResult f || u)))
 
@@ -534,7 +538,7 @@ module _ (P : ErrorRecord → ErrorRecord) (one : OneToOne P) (c : Call) where
         heard-both =
             likes-by (f .busy) (likes (dueAgainOf e t) (λ q. (q, refl)))
             (likes-by (isCommandDue e) (likes (performedOf e t) (λ q. (quiet Q.Empty refl q, refl)))
-            (likes (confirmedOf e t) (λ q. (q, refl))))
+            (likes (confirmedOf e t f) (λ q. (q, refl))))
 
         reply-with : Answer → Outcome
         reply-with a =

@@ -1,7 +1,7 @@
 -- The theorem's premises can be met: the day of week moved on by one is a map that is not the identity; for every such map
 -- bytes and frames have their exchange; and a station's record is set, read and written in two runs.
 use mathlib.Core.Path.{_≡_, refl, sym, ap, subst, _∙_}
-use mathlib.Core.Bool.{true, false, _&&_, false≢true, true≢false}
+use mathlib.Core.Bool.{Bool, true, false, cond, _&&_, false≢true, true≢false}
 use mathlib.Core.List.{List, [], _∷_}
 use mathlib.Mathlib.Data.Bool.Basic.{and-elim-left as and-left, and-elim-right as and-right}
 use Prim.Native.Nat.{ℕ, zero, suc, _+_, _%_, _≤_}
@@ -19,13 +19,15 @@ use Rattle.errors.specs.Writing.{isValid, dateBytes, bytesOf}
 use Rattle.errors.proofs.ReadBack.{round-trip}
 use Rattle.frame.specs.declared.Command.{Command}
 use Rattle.frame.specs.declared.Command.the-variants as K
+use Rattle.frame.specs.declared.Subconnection.{Subconnection}
+use Rattle.frame.specs.declared.Subconnection.the-variants.{Absent, Number}
 use Rattle.frame.specs.declared.Fields.{Fields}
 use Rattle.frame.specs.declared.Reading.{Reading}
 use Rattle.frame.specs.declared.Reading.the-variants.{Frame, Refused}
-use Rattle.frame.specs.Control.{controlOf, hasForm}
+use Rattle.frame.specs.Control.{is, controlOf, hasForm}
 use Rattle.frame.specs.Reading.{hasCheckWord, fieldsIn, readingOfCopies, readingOf}
 use Rattle.frame.specs.Writing.{headBytes, withCheckWord, twice, subBytes, frameBytes, isWritable}
-use Rattle.frame.specs.RoundTrip.{Readable}
+use Rattle.frame.specs.RoundTrip.{SubconnectionFits, Readable}
 use Rattle.frame.proofs.ReadBack.{round-trip as frame-trip}
 use Rattle.steps.specs.Frames.{Written, nothing, frame, sentFields, ackFields, setupData, handedOver, recordIn}
 use Rattle.steps.specs.Steps.{setRecord}
@@ -148,6 +150,10 @@ list = 0x10000102 ∷ 0x20000103 ∷ 0x30000421 ∷ 0x40000064 ∷ 0x50000032 �
 cid : ℕ
 cid = 0x01020103
 
+-- the station's session number
+number : ℕ
+number = 7
+
 -- 29 February 2024, a Thursday, with one detail
 thursday : ErrorRecord
 thursday = record {
@@ -172,8 +178,17 @@ is-valid : Valid thursday
 unfolding thursday isValid isDate daysIn daysOf
 is-valid = record { typed = record { details = refl }; valid = refl }
 
+-- an S-Connect request carries none
+session : Bool → Subconnection
+session connects = cond connects Absent (Number number)
+
+fits : (connects : Bool) → SubconnectionFits (session connects)
+unfolding number session
+fits true = tt
+fits false = lit< tt
+
 fields : ℕ → Command → Fields
-fields t k = sentFields k false cid t 0
+fields t k = sentFields k false (session (is k K.Connect)) cid t 0
 
 bodyOf : Command → List ℕ
 bodyOf k = setupData (settingsAt list 0) k
@@ -199,10 +214,11 @@ unfolding fields
 plain t k body n w =
     frames turned one-to-one (fields t k)
     (record { carried = λ q. absurd (true≢false (sym q ∙ n)); plain = λ q. refl })
-    (record { baseline = lit< tt; subconnection = tt; formed = w })
+    (record { baseline = lit< tt; subconnection = fits (is k K.Connect); formed = w })
 
 met : ExchangedCalls turned (run thursday) (run (turned thursday))
-unfolding list settingsAt setupData bodyOf fields delivered run isWritable hasForm thursday turned dateBytes bytesOf
+unfolding list number session settingsAt setupData bodyOf fields delivered run isWritable hasForm thursday turned
+    dateBytes bytesOf
 met =
     ExchangedCalls.next _ _ (ExchangedCall.delivers (plain 10 K.Connect (bodyOf K.Connect) refl refl))
     (ExchangedCalls.next _ _
@@ -212,11 +228,11 @@ met =
     (ExchangedCalls.next _ _ (ExchangedCall.delivers (plain 35 K.ReadErrorInfo (bodyOf K.ReadErrorInfo) refl refl))
     (ExchangedCalls.next _ _
     (ExchangedCall.delivers (ExchangedFrame.record′ (fields 40 K.WriteErrorInfo) thursday is-valid refl
-    (record { baseline = lit< tt; subconnection = tt; formed = refl }))) ExchangedCalls.none)))))
+    (record { baseline = lit< tt; subconnection = fits false; formed = refl }))) ExchangedCalls.none)))))
 
 -- ---- the theorem, from a blank slice of one record
 loaded : Lent
-loaded = loadedOf list (replicate 1 blankRecord) .lent
+loaded = loadedOf number list (replicate 1 blankRecord) .lent
 
 blank : ExchangedRecord turned blankRecord blankRecord
 blank = record { same = refl; errorinfo = λ q. absurd (false≢true q) }
@@ -233,7 +249,8 @@ told : ExchangedRuns turned loaded loaded (run thursday) (run (turned thursday))
 unfolding loaded
 told =
     non-interference .runs turned one-to-one loaded loaded
-    (non-interference .loaded turned list (loadedWith 0) (replicate 1 blankRecord) (replicate 1 blankRecord) blanks)
+    (non-interference .loaded turned number list (loadedWith 0) (replicate 1 blankRecord) (replicate 1 blankRecord)
+    blanks)
     (run thursday) (run (turned thursday)) met
 
 -- ---- what each run writes: the station's replies, the last two with the record
@@ -242,7 +259,7 @@ wrote d [] = []
 wrote d (v ∷ vs) = let r = callIn d (v .0) (v .1) (v .2) in r .writes ∷ wrote (r .lent) vs
 
 replied : ℕ → Command → List ℕ → Written
-replied t k body = frame (ackFields k false false cid t) body
+replied t k body = frame (ackFields k false false (Number number) cid t) body
 
 replies : ErrorRecord → List Written
 replies x =
@@ -252,15 +269,17 @@ replies x =
     ∷ nothing ∷ replied 35 K.ReadErrorInfo (bytesOf x) ∷ replied 40 K.WriteErrorInfo (bytesOf x) ∷ []
 
 computed : wrote loaded (run thursday) ≡ replies thursday
-unfolding wrote replied replies loaded list cid thursday fields bodyOf delivered run endpointAt placeOf clockStep
-    connectionAt settingsAt isConnectionAt isNewAt areConnections isList setupData handedOver recordIn isRecord hasDigits
-    hasCount isDate daysIn daysOf dateBytes bytesOf moreFollows controlOf hasForm hasCheckWord fieldsIn readingOfCopies
-    readingOf headBytes withCheckWord twice subBytes frameBytes bitStep bitSteps byteStep crcFrom crc
+unfolding wrote replied replies loaded list cid number session thursday fields bodyOf delivered run endpointAt placeOf
+    clockStep connectionAt settingsAt isConnectionAt isNewAt areConnections isList setupData handedOver recordIn
+    isRecord hasDigits hasCount isDate daysIn daysOf dateBytes bytesOf moreFollows controlOf hasForm hasCheckWord
+    fieldsIn readingOfCopies readingOf headBytes withCheckWord twice subBytes frameBytes bitStep bitSteps byteStep
+    crcFrom crc
 computed = refl
 
 computed′ : wrote loaded (run (turned thursday)) ≡ replies (turned thursday)
-unfolding wrote replied replies loaded list cid thursday turned fields bodyOf delivered run endpointAt placeOf clockStep
-    connectionAt settingsAt isConnectionAt isNewAt areConnections isList setupData handedOver recordIn isRecord hasDigits
-    hasCount isDate daysIn daysOf dateBytes bytesOf moreFollows controlOf hasForm hasCheckWord fieldsIn readingOfCopies
-    readingOf headBytes withCheckWord twice subBytes frameBytes bitStep bitSteps byteStep crcFrom crc
+unfolding wrote replied replies loaded list cid number session thursday turned fields bodyOf delivered run endpointAt
+    placeOf clockStep connectionAt settingsAt isConnectionAt isNewAt areConnections isList setupData handedOver recordIn
+    isRecord hasDigits hasCount isDate daysIn daysOf dateBytes bytesOf moreFollows controlOf hasForm hasCheckWord
+    fieldsIn readingOfCopies readingOf headBytes withCheckWord twice subBytes frameBytes bitStep bitSteps byteStep
+    crcFrom crc
 computed′ = refl

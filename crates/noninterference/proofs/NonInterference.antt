@@ -259,27 +259,28 @@ module _ (P : ErrorRecord → ErrorRecord) (one : OneToOne P) where
 
 -- ---- as loaded: a connection in Close has no error record
 module _ (P : ErrorRecord → ErrorRecord) where
-  fresh-both : (ws : List ℕ) (i : ℕ) → ExchangedRecord P (freshAt ws i) (freshAt ws i)
-  fresh-both ws i =
-      let e = freshOf (settingsAt ws i) in
+  fresh-both : (number : ℕ) (ws : List ℕ) (i : ℕ) → ExchangedRecord P (freshAt number ws i) (freshAt number ws i)
+  fresh-both number ws i =
+      let e = freshOf (settingsAt ws i) number in
       record-of P e e (record {
         same = refl;
         errorinfo = λ q. absurd (false≢true (sym (and-false (not (e .settings .slave))) ∙ q));
       })
 
-  loaded-both : (ws : List ℕ) (g : Gateway) (rs rs′ : List Record) → ExchangedLent P (lent g rs) (lent g rs′)
-      → ExchangedLent P (loadedOf ws rs .lent) (loadedOf ws rs′ .lent)
-  loaded-both ws g rs rs′ D =
+  loaded-both : (number : ℕ) (ws : List ℕ) (g : Gateway) (rs rs′ : List Record)
+      → ExchangedLent P (lent g rs) (lent g rs′)
+      → ExchangedLent P (loadedOf number ws rs .lent) (loadedOf number ws rs′ .lent)
+  loaded-both number ws g rs rs′ D =
+      let fresh = freshAt number ws in
       let stays : ExchangedLent P (lent (loadedWith 0) rs) (lent (loadedWith 0) rs′) =
       record { gateway = refl; whole = D .whole; records = D .records } in
       bcase (isList ws)
       (λ l. rw (l, D .whole) (bcase (ltb (length rs) (countOf ws)) (λ q. rw q stays)
       (λ q. rw q (record {
         gateway = refl;
-        whole = length-filled (freshAt ws) (countOf ws) rs′ ∙ D .whole
-            ∙ sym (length-filled (freshAt ws) (countOf ws) rs);
-        records = filled-both (ExchangedRecord P) blankRecord (freshAt ws) (fresh-both ws) (countOf ws) rs rs′ (D .whole)
-            (D .records);
+        whole = length-filled fresh (countOf ws) rs′ ∙ D .whole ∙ sym (length-filled fresh (countOf ws) rs);
+        records = filled-both (ExchangedRecord P) blankRecord fresh (fresh-both number ws) (countOf ws) rs rs′
+            (D .whole) (D .records);
       }))))
       (λ l. rw l stays)
 

@@ -149,9 +149,10 @@ module _ (P : ErrorRecord → ErrorRecord) where
         → ExchangedCalls ((t, room, c) ∷ vs) ((t, room, c′) ∷ vs′)
 
 pub record NonInterference : Type 0 where
-  -- one list, loaded in both runs into slices that correspond
-  pub loaded : (P : ErrorRecord → ErrorRecord) (ws : List ℕ) (g : Gateway) (rs rs′ : List Record)
-      → ExchangedLent P (lent g rs) (lent g rs′) → ExchangedLent P (loadedOf ws rs .lent) (loadedOf ws rs′ .lent)
+  -- one list, loaded in both runs with one session number into slices that correspond
+  pub loaded : (P : ErrorRecord → ErrorRecord) (number : ℕ) (ws : List ℕ) (g : Gateway) (rs rs′ : List Record)
+      → ExchangedLent P (lent g rs) (lent g rs′)
+      → ExchangedLent P (loadedOf number ws rs .lent) (loadedOf number ws rs′ .lent)
   -- from connections that correspond, for every list of calls
   pub runs : (P : ErrorRecord → ErrorRecord) → OneToOne P → (d d′ : Lent) → ExchangedLent P d d′
       → (vs vs′ : List (ℕ × ℕ × Call)) → ExchangedCalls P vs vs′ → ExchangedRuns P d d′ vs vs′

@@ -1,8 +1,11 @@
 -- The record of an endpoint is that endpoint's.
 use mathlib.Core.Path.{_≡_, refl, sym}
-use mathlib.Core.Bool.{Bool, true, false, cond, true≢false}
+use mathlib.Core.Bool.{Bool, true, false, not, cond, true≢false}
 use mathlib.Core.List.{List}
 use Prim.Native.Nat.{ℕ}
+use Rattle.frame.specs.declared.Subconnection.{Subconnection}
+use Rattle.frame.specs.declared.Subconnection.the-variants.{Absent, Number}
+use Rattle.frame.specs.Control.{subconnectionOf, isAbsent}
 use Rattle.endpoint.specs.declared.State.{State}
 use Rattle.endpoint.specs.declared.State.the-variants.{Close, Starting, EstablishPending, Establish, ParamVerify}
 use Rattle.endpoint.specs.declared.State.the-variants.{FuncRunning, RefreshPending, Refresh, Terminate}
@@ -17,7 +20,7 @@ use Rattle.endpoint.specs.Endpoint.{Endpoint, noBytes}
 use Rattle.endpoint.specs.Table.{rowOf}
 use Rattle.endpoint.specs.Time.{Tidy}
 use Rattle.records.specs.Records.{isSet, flagOf, stateFrom, timestampFrom, isAt, timeIn, pendingFrom, isAsked}
-use Rattle.records.specs.Records.{askedIn, queueFrom, queueNumber, endpointOf, recordOf, RecordTheorem}
+use Rattle.records.specs.Records.{askedIn, queueFrom, queueNumber, sessionIn, endpointOf, recordOf, RecordTheorem}
 
 pub flag-back : (b : Bool) → isSet (flagOf b) ≡ b
 flag-back true = refl
@@ -50,6 +53,10 @@ queue-back ReadErrorInfo = refl
 queue-back WriteErrorInfo = refl
 queue-back Closed = refl
 
+session-back : (x : Subconnection) → subconnectionOf (isSet (flagOf (not (isAbsent x)))) (sessionIn x) ≡ x
+session-back Absent = refl
+session-back (Number n) = refl
+
 bytes-back : (taken : Bool) (bytes : List ℕ) → (taken ≡ false → bytes ≡ noBytes)
     → cond (isSet (flagOf taken)) bytes noBytes ≡ bytes
 bytes-back true bytes h = refl
@@ -61,6 +68,7 @@ back e tidy =
       bytes-back (e .value .taken) (e .value .bytes) tidy,
       flag-back (e .settings .slave),
       state-back (e .state),
+      session-back (e .session),
       timestamp-back (e .timestamps .sent),
       timestamp-back (e .timestamps .accepted),
       pending-back (e .setup .pending),

@@ -5,6 +5,9 @@ use mathlib.Core.Bool.{Bool, true, false, not, cond}
 use mathlib.Core.List.{List}
 use Prim.Native.Nat.{ℕ}
 use lib.Dec.{eqb}
+use Rattle.frame.specs.declared.Subconnection.{Subconnection}
+use Rattle.frame.specs.declared.Subconnection.the-variants.{Absent, Number}
+use Rattle.frame.specs.Control.{subconnectionOf, isAbsent}
 use Rattle.endpoint.specs.declared.State.{State}
 use Rattle.endpoint.specs.declared.State.the-variants.{Close, Starting, EstablishPending, Establish, ParamVerify}
 use Rattle.endpoint.specs.declared.State.the-variants.{FuncRunning, RefreshPending, Refresh, Terminate}
@@ -80,6 +83,10 @@ queueNumber ReadErrorInfo = 2
 queueNumber WriteErrorInfo = 3
 queueNumber Closed = 4
 
+abbrev pub sessionIn : Subconnection → ℕ
+sessionIn Absent = 0
+sessionIn (Number n) = n
+
 -- ---- a record and its endpoint
 -- the endpoint that is stored, with the bytes of its value, of its words and of its error record
 abbrev pub wholeOf : Stored → List ℕ → List ℕ → List ℕ → Endpoint
@@ -95,6 +102,7 @@ wholeOf s bytes words errorinfo = record {
     station = s .station;
   };
   state = stateFrom (s .state);
+  session = subconnectionOf (isSet (s .hassession)) (s .session);
   since = s .since;
   timestamps = record {
     sent = timestampFrom (isSet (s .hassent)) (s .sent);
@@ -154,6 +162,8 @@ storedOf e = record {
   errorinfo = e .errorinfo .count;
   taken = flagOf (e .value .taken);
   valueage = e .value .age;
+  session = sessionIn (e .session);
+  hassession = flagOf (not (isAbsent (e .session)));
 }
 
 abbrev pub recordWith : Stored → List ℕ → List ℕ → List ℕ → Record
@@ -192,6 +202,8 @@ endedStored s = record {
   errorinfo = s .errorinfo;
   taken = 0;
   valueage = 0;
+  session = s .session;
+  hassession = s .hassession;
 }
 
 abbrev pub endedRecord : Record → Record

@@ -7,7 +7,8 @@ ghost use Rattle.frame.specs.Control.{is};
 ghost use Rattle.endpoint.specs.Table.{rowOf, requestOf};
 ghost use Rattle.endpoint.specs.Time.{isExpired};
 ghost use Rattle.records.specs.Records.{isSet, flagOf, stateFrom, timestampFrom, isAt, timeIn, pendingFrom, isAsked};
-ghost use Rattle.records.specs.Records.{askedIn, queueFrom, queueNumber, bareOf, storedOf, endedStored};
+ghost use Rattle.records.specs.Records.{askedIn, queueFrom, queueNumber, sessionIn, bareOf, storedOf};
+ghost use Rattle.records.specs.Records.{endedStored};
 use endpoint::Core;
 use endpoint::Pending;
 use endpoint::Queue;
@@ -18,10 +19,13 @@ use endpoint::Station;
 use endpoint::Timestamp;
 use endpoint::Timestamps;
 use endpoint::time::passed;
+use frame::Subconnection;
+use frame::control::is_absent;
+use frame::control::subconnection_of;
 
-// All that a connection keeps, but for the bytes of its value, of its words and of its error record. A flag is 0, or set;
-// a timestamp counts where its flag is set. What a call looks at in every record of the table, the timer and the CID,
-// stands first.
+// All that a connection keeps, but for the bytes of its value, of its words and of its error record. A flag is 0, or
+// set; a timestamp and the session number count where their flags are set. What a call looks at in every record of the
+// table, the timer and the CID, stands first.
 #[repr(C)]
 pub struct Stored {
     // the clock reading where the timer starts
@@ -65,6 +69,9 @@ pub struct Stored {
     pub errorinfo: u8,
     // whether a value was accepted in this Refresh
     pub taken: u8,
+    // the session number
+    pub session: u16,
+    pub hassession: u8,
 }
 
 #[repr(C)]
@@ -202,6 +209,15 @@ fn queue_number(q: Queue) -> u8
     }
 }
 
+fn session_in(x: Subconnection) -> u16
+    ensures { λ r. ⌜ r ≡ sessionIn x ⌝ }
+{
+    match x {
+        Subconnection::Absent => 0,
+        Subconnection::Number(n) => n,
+    }
+}
+
 // The core of the endpoint that is stored.
 pub fn core_of(s: Stored) -> Core
     ensures { λ r. ⌜ r ≡ coreOf (bareOf s) ⌝ }
@@ -218,6 +234,7 @@ pub fn core_of(s: Stored) -> Core
             station: s.station,
         },
         state: state_from(s.state),
+        session: subconnection_of(s.hassession != 0, s.session),
         since: s.since,
         timestamps: Timestamps {
             sent: timestamp_from(s.hassent != 0, s.sent),
@@ -246,6 +263,7 @@ pub fn stored_of(e: Core) -> Stored
     ensures { λ r. ⌜ r ≡ storedOf (bare e) ⌝ }
 {
     let state = e.state;
+    let session = e.session;
     let timestamps = e.timestamps;
     let sent = timestamps.sent;
     let accepted = timestamps.accepted;
@@ -279,6 +297,8 @@ pub fn stored_of(e: Core) -> Stored
         errorinfo: e.errorinfo,
         taken: flag_of(e.taken),
         valueage: e.valueage,
+        session: session_in(session),
+        hassession: flag_of(!is_absent(session)),
     }
 }
 

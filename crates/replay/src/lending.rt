@@ -165,11 +165,11 @@ pub(crate) fn deliver(rs: [Record; 70], n: usize, c: Call, bytes: &[u8], out: &m
     }
 }
 
-pub(crate) fn load(rs: [Record; 70], n: usize, list: &[u32]) -> Answered
+pub(crate) fn load(rs: [Record; 70], n: usize, c: Call, list: &[u32]) -> Answered
     requires { ⌜ n ≤ 70 ⌝ }
 {
     let mut a = rs;
-    let called = gateway::load::load(&mut a[..n], list);
+    let called = gateway::load::load(&mut a[..n], c, list);
     Answered {
         records: a,
         called: called,

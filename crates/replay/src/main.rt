@@ -26,12 +26,14 @@ use text::lines::front;
 use text::lines::refilled;
 use text::lines::take_line;
 
-// The records and the gateway; how many of the records, and how long an output, calls are lent; and whether to go on.
+// The records and the gateway; how many of the records, and how long an output, calls are lent; the session number that
+// loads and restarts are handed; and whether to go on.
 struct Replay {
     records: [Record; 70],
     gateway: Gateway,
     lent: usize,
     room: usize,
+    session: u16,
     going: bool,
 }
 
@@ -92,6 +94,8 @@ fn blank() -> Record {
             errorinfo: 0,
             taken: 0,
             valueage: 0,
+            session: 0,
+            hassession: 0,
         },
         value: [0; 100],
         words: [0; 100],
@@ -163,6 +167,7 @@ fn after(r: Replay, answered: Answered, out: &[u8]) -> Replay {
         gateway: gateway,
         lent: r.lent,
         room: r.room,
+        session: r.session,
         going: print_answer(called, out),
     }
 }
@@ -173,6 +178,7 @@ fn call_at(gateway: Gateway, clock: u64, entry: usize) -> Call {
         clock: clock,
         entry: entry,
         notready: 0,
+        session: 0,
         word: 0,
     }
 }
@@ -180,6 +186,12 @@ fn call_at(gateway: Gateway, clock: u64, entry: usize) -> Call {
 fn with_not_ready(c: Call) -> Call {
     let mut next = c;
     next.notready = 1;
+    next
+}
+
+fn with_session(c: Call, session: u16) -> Call {
+    let mut next = c;
+    next.session = session;
     next
 }
 
@@ -197,7 +209,8 @@ fn start(r: Replay, c: Call, out: &[u8]) -> Replay {
 
 fn restart(r: Replay, c: Call, out: &[u8]) -> Replay {
     let records = r.records;
-    let answered = lending::restart(records, records_within(r.lent), c);
+    let handed = with_session(c, r.session);
+    let answered = lending::restart(records, records_within(r.lent), handed);
     after(r, answered, out)
 }
 
@@ -323,17 +336,19 @@ fn deliver(r: Replay, clock: u64, line: &[u8], start: usize, out: &mut [u8]) -> 
     deliver_bytes(r, call_at(gateway, clock, 0), &bytes, n, out)
 }
 
-fn load_words(r: Replay, words: &[u32], n: usize) -> Replay {
+fn load_words(r: Replay, c: Call, words: &[u32], n: usize) -> Replay {
     let records = r.records;
     let k = words_within(n, words);
-    let answered = lending::load(records, records_within(r.lent), &words[..k]);
+    let answered = lending::load(records, records_within(r.lent), c, &words[..k]);
     after(r, answered, &[])
 }
 
 fn load(r: Replay, line: &[u8]) -> Replay {
+    let gateway = r.gateway;
     let mut words = no_words();
     let n = text::hex::settings_in(line, &mut words);
-    load_words(r, &words, n)
+    let c = with_session(call_at(gateway, 0, 0), r.session);
+    load_words(r, c, &words, n)
 }
 
 fn check_bytes(bytes: &[u8], n: usize) -> bool {
@@ -356,6 +371,11 @@ fn wrong(place: u64) -> bool {
     print(&text, n)
 }
 
+// A session number has 16 bits; no line has a longer one.
+fn session_within(n: usize) -> u16 {
+    if n < 65536 { n as u16 } else { 65535 }
+}
+
 fn set(r: Replay, parameter: Parameter, n: usize) -> Replay {
     let mut next = r;
     match parameter {
@@ -364,6 +384,9 @@ fn set(r: Replay, parameter: Parameter, n: usize) -> Replay {
         }
         Parameter::Records => {
             next.lent = n;
+        }
+        Parameter::Session => {
+            next.session = session_within(n);
         }
     }
     next
@@ -447,6 +470,7 @@ fn main() {
         gateway: Gateway { last: 0, count: 0 },
         lent: 64,
         room: 248,
+        session: 0,
         going: true,
     };
     let mut turns = u64::MAX;

@@ -156,8 +156,8 @@ module _ (n : ℕ) (d : Lent) (count : ℕ) (H : Held n d count) (t : ℕ) where
 -- ---- every list
 step : (n : ℕ) (x : Watched) (s : Step) → Held n (x .lent) (x .count)
     → Held n (afterStep n x s .lent) (afterStep n x s .count)
-step n x (load ws rs) k =
-    record { whole = loaded-whole ws rs; same = loaded-none ws rs n; most = lit≤ tt }
+step n x (load number ws rs) k =
+    record { whole = loaded-whole number ws rs; same = loaded-none number ws rs n; most = lit≤ tt }
 step n x (call t room c) k = called n (x .lent) (x .count) k t room (A.reach (x .lent) t room c)
 
 steps : (n : ℕ) (l : List Step) (x : Watched) → Held n (x .lent) (x .count)

@@ -37,7 +37,7 @@ wroteRequest n r = isAt (r .entry) n && isRequestIn (readingOf (onBus (r .writes
 
 -- a loading begins anew, and a start of the entry that is done; each request written adds one
 abbrev pub countAfter : ℕ → Step → Result → ℕ → ℕ
-countAfter n (load ws rs) r count = 0
+countAfter n (load number ws rs) r count = 0
 countAfter n (call t room c) r count =
     cond (isStartOf n c && isDone (r .answer)) 0 (cond (wroteRequest n r) (suc count) count)
 

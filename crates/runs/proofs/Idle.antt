@@ -11,6 +11,7 @@ use Rattle.endpoint.specs.Endpoint.{Endpoint}
 use Rattle.endpoint.specs.declared.Reason.the-variants as R
 use Rattle.endpoint.specs.declared.Answer.{Answer}
 use Rattle.endpoint.specs.declared.Answer.the-variants.{Done, Dropped, Ended}
+use Rattle.endpoint.specs.Answers.{isDone}
 use Rattle.endpoint.specs.Table.{rowOf, isState, isTerminated}
 use Rattle.endpoint.specs.Time.{isExpired, endedOf, afterTick}
 use Rattle.transitions.specs.ByCall.{startedOf, restartedOf}
@@ -24,6 +25,7 @@ use Rattle.steps.proofs.Keeps.{bcase}
 pub record Idle (e : Endpoint) (t : ℕ) : Type 0 where
   pub by : Act
   pub answer : Answer
+  pub refused : isDone answer ≡ false
   pub comes : callOf e t (act by) ≡ outcome answer (afterTick e t) nothing
 
 -- what a call comes to where the timer has expired, and where it has not
@@ -57,24 +59,27 @@ pub idle-at : (e : Endpoint) (t : ℕ) → Idle e t
 idle-at e t =
     bcase (isExpired e t)
     (λ x. record {
-      by = restart;
+      by = restart 0;
       answer = Ended R.Expired;
-      comes = call-expired e t (act restart) x
+      refused = refl;
+      comes = call-expired e t (act (restart 0)) x
           ∙ ap (λ (y : Endpoint). outcome (Ended R.Expired) y nothing) (sym (tick-expired e t x));
     })
     (λ x. bcase (isTerminated (e .state))
     (λ s. record {
       by = start;
       answer = Dropped R.Turn;
+      refused = refl;
       comes = call-timely e t (act start) x
           ∙ start-refused e t (not (e .settings .slave)) (isState (e .state) Close) (not-closed (e .state) s)
           ∙ ap (λ (y : Endpoint). dropped y (Dropped R.Turn)) (sym (tick-timely e t x));
     })
     (λ s. record {
-      by = restart;
+      by = restart 0;
       answer = Dropped R.Turn;
-      comes = call-timely e t (act restart) x
-          ∙ cond-false (isTerminated (e .state)) (outcome Done (restartedOf e) nothing)
+      refused = refl;
+      comes = call-timely e t (act (restart 0)) x
+          ∙ cond-false (isTerminated (e .state)) (outcome Done (restartedOf e 0) nothing)
           (dropped e (Dropped R.Turn)) s
           ∙ ap (λ (y : Endpoint). dropped y (Dropped R.Turn)) (sym (tick-timely e t x));
     }))

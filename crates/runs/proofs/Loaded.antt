@@ -92,19 +92,19 @@ in-ranges ws i h =
     }
 
 -- ---- the table
-tableOf : List ℕ → List Record → Lent
-tableOf ws rs = lent (loadedWith (countOf ws)) (filled (freshAt ws) (countOf ws) rs)
+tableOf : ℕ → List ℕ → List Record → Lent
+tableOf number ws rs = lent (loadedWith (countOf ws)) (filled (freshAt number ws) (countOf ws) rs)
 
 same-cid : (ws : List ℕ) (i : ℕ) → settingsAt ws i .connection ≡ connectionAt ws i
 unfolding settingsAt connectionAt
 same-cid ws i = refl
 
--- what holds of the CID's entry n
-pub record Table (d : Lent) (cid n : ℕ) : Type 0 where
+-- what holds of the CID's entry n, loaded with a session number
+pub record Table (number : ℕ) (d : Lent) (cid n : ℕ) : Type 0 where
   pub entry : placeOf cid d ≡ n
   pub whole : Whole d
   pub counted : n < d .gateway .count
-  pub fresh : endpointAt d n ≡ freshOf (endpointAt d n .settings)
+  pub fresh : endpointAt d n ≡ freshOf (endpointAt d n .settings) number
   pub ticks : Ticks (endpointAt d n .settings)
   pub has : endpointAt d n .settings .connection ≡ cid
   pub others : (i : ℕ) → i < d .gateway .count → (i ≡ n → ⊥) → endpointAt d i .settings .connection ≡ cid → ⊥
@@ -114,34 +114,36 @@ pub none-whole : (rs : List Record) → Whole (lent (loadedWith 0) rs)
 none-whole rs = le-ltb (length rs) 0 (omega arith)
 
 -- of a right list, in a slice that is long enough for it
-module _ (ws : List ℕ) (rs : List Record) (l : isList ws ≡ true) (long : ltb (length rs) (countOf ws) ≡ false) where
-  table-whole : Whole (tableOf ws rs)
+module _ (number : ℕ) (ws : List ℕ) (rs : List Record) (l : isList ws ≡ true)
+    (long : ltb (length rs) (countOf ws) ≡ false) where
+  table-whole : Whole (tableOf number ws rs)
   unfolding tableOf
-  table-whole = ap (λ (n : ℕ). ltb n (countOf ws)) (length-filled (freshAt ws) (countOf ws) rs) ∙ long
+  table-whole = ap (λ (n : ℕ). ltb n (countOf ws)) (length-filled (freshAt number ws) (countOf ws) rs) ∙ long
 
-  fresh-at : (i : ℕ) → i < countOf ws → endpointAt (tableOf ws rs) i ≡ freshOf (settingsAt ws i)
+  fresh-at : (i : ℕ) → i < countOf ws → endpointAt (tableOf number ws rs) i ≡ freshOf (settingsAt ws i) number
   unfolding tableOf endpointAt
   fresh-at i h =
       let k : i < length rs = let z = ltb-false (length rs) (countOf ws) long in omega arith in
-      ap endpointOf (filled-below (freshAt ws) (countOf ws) i rs blankRecord h k)
-      ∙ records .back (freshOf (settingsAt ws i)) (λ q. refl)
+      ap endpointOf (filled-below (freshAt number ws) (countOf ws) i rs blankRecord h k)
+      ∙ records .back (freshOf (settingsAt ws i) number) (λ q. refl)
 
-  settings-at : (i : ℕ) → i < countOf ws → endpointAt (tableOf ws rs) i .settings ≡ settingsAt ws i
+  settings-at : (i : ℕ) → i < countOf ws → endpointAt (tableOf number ws rs) i .settings ≡ settingsAt ws i
   settings-at i h = ap (λ (e : Endpoint). e .settings) (fresh-at i h)
 
-  cid-at : (i : ℕ) → i < countOf ws → endpointAt (tableOf ws rs) i .settings .connection ≡ connectionAt ws i
+  cid-at : (i : ℕ) → i < countOf ws → endpointAt (tableOf number ws rs) i .settings .connection ≡ connectionAt ws i
   cid-at i h = ap (λ (s : Settings). s .connection) (settings-at i h) ∙ same-cid ws i
 
-  table-at : (cid n : ℕ) → placeOf cid (tableOf ws rs) ≡ n → n < countOf ws → Table (tableOf ws rs) cid n
+  table-at : (cid n : ℕ) → placeOf cid (tableOf number ws rs) ≡ n → n < countOf ws
+      → Table number (tableOf number ws rs) cid n
   unfolding tableOf
   table-at cid n h k =
-      let d = tableOf ws rs in
+      let d = tableOf number ws rs in
       let has : endpointAt d n .settings .connection ≡ cid = rw h at (place-has cid d table-whole (rw h k)) in
       record {
         entry = h;
         whole = table-whole;
         counted = k;
-        fresh = fresh-at n k ∙ ap freshOf (sym (settings-at n k));
+        fresh = fresh-at n k ∙ ap (λ (s : Settings). freshOf s number) (sym (settings-at n k));
         ticks = subst Ticks (sym (settings-at n k))
             (in-ranges ws n (are-at ws (countOf ws) n (are-connections ws l) k .0));
         has = has;
@@ -150,11 +152,11 @@ module _ (ws : List ℕ) (rs : List Record) (l : isList ws ≡ true) (long : ltb
       }
 
 -- ---- a loading: done, or refused and of no connections
-module _ (ws : List ℕ) (rs : List Record) where
+module _ (number : ℕ) (ws : List ℕ) (rs : List Record) where
   loads : (P : Loaded → Type 0)
-      → (isList ws ≡ true → ltb (length rs) (countOf ws) ≡ false → P (loaded Done (tableOf ws rs)))
+      → (isList ws ≡ true → ltb (length rs) (countOf ws) ≡ false → P (loaded Done (tableOf number ws rs)))
       → ((a : Answer) → isDone a ≡ false → P (loaded a (lent (loadedWith 0) rs)))
-      → P (loadedOf ws rs)
+      → P (loadedOf number ws rs)
   unfolding tableOf
   loads P done refused =
       bcase (isList ws)
@@ -162,24 +164,24 @@ module _ (ws : List ℕ) (rs : List Record) where
       (λ s. rw (l, s) (done l s)))
       (λ l. rw l (refused (Dropped R.Settings) refl))
 
-  pub loaded-table : (cid : ℕ) → loadedOf ws rs .answer ≡ Done
-      → isEntry (loadedOf ws rs .lent) (placeOf cid (loadedOf ws rs .lent)) ≡ true
-      → Table (loadedOf ws rs .lent) cid (placeOf cid (loadedOf ws rs .lent))
+  pub loaded-table : (cid : ℕ) → loadedOf number ws rs .answer ≡ Done
+      → isEntry (loadedOf number ws rs .lent) (placeOf cid (loadedOf number ws rs .lent)) ≡ true
+      → Table number (loadedOf number ws rs .lent) cid (placeOf cid (loadedOf number ws rs .lent))
   unfolding tableOf
   loaded-table cid =
       loads (λ (x : Loaded). x .answer ≡ Done → isEntry (x .lent) (placeOf cid (x .lent)) ≡ true
-      → Table (x .lent) cid (placeOf cid (x .lent)))
-      (λ l s d h. table-at ws rs l s cid (placeOf cid (tableOf ws rs)) refl (ltb-true _ (countOf ws) h))
+      → Table number (x .lent) cid (placeOf cid (x .lent)))
+      (λ l s d h. table-at number ws rs l s cid (placeOf cid (tableOf number ws rs)) refl (ltb-true _ (countOf ws) h))
       (λ a n d. absurd (false≢true (sym n ∙ ap isDone d)))
 
-  pub loaded-whole : Whole (loadedOf ws rs .lent)
-  loaded-whole = loads (λ (x : Loaded). Whole (x .lent)) (table-whole ws rs) (λ a n. none-whole rs)
+  pub loaded-whole : Whole (loadedOf number ws rs .lent)
+  loaded-whole = loads (λ (x : Loaded). Whole (x .lent)) (table-whole number ws rs) (λ a n. none-whole rs)
 
   -- no connection has written a request
-  pub loaded-none : (i : ℕ) → i < loadedOf ws rs .lent .gateway .count
-      → endpointAt (loadedOf ws rs .lent) i .setup .requests ≡ 0
+  pub loaded-none : (i : ℕ) → i < loadedOf number ws rs .lent .gateway .count
+      → endpointAt (loadedOf number ws rs .lent) i .setup .requests ≡ 0
   unfolding tableOf
   loaded-none i =
       loads (λ (x : Loaded). i < x .lent .gateway .count → endpointAt (x .lent) i .setup .requests ≡ 0)
-      (λ l s h. ap (λ (e : Endpoint). e .setup .requests) (fresh-at ws rs l s i h))
+      (λ l s h. ap (λ (e : Endpoint). e .setup .requests) (fresh-at number ws rs l s i h))
       (λ a n h. absurd (not-suc-le-zero h))

@@ -44,7 +44,7 @@ and-false false = refl
 pub lends : ℕ → Act → Bool
 lends room start = false
 lends room stop = isShort room
-lends room restart = false
+lends room (restart number) = false
 lends room (setNotReady b) = false
 lends room (setResult body) = false
 lends room clearResult = false
@@ -59,7 +59,7 @@ pub act-in : (d : Lent) (t room : ℕ) (a : Act) (k : ℕ)
 unfolding lends
 act-in d t room start k = refl
 act-in d t room stop k = refl
-act-in d t room restart k = refl
+act-in d t room (restart number) k = refl
 act-in d t room (setNotReady b) k = refl
 act-in d t room (setResult body) k = refl
 act-in d t room clearResult k = refl

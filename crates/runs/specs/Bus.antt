@@ -4,6 +4,8 @@ use mathlib.Core.List.{List, []}
 use Prim.Native.Nat.{ℕ}
 use lib.Dec.{eqb}
 use Rattle.frame.specs.declared.Command.the-variants as K
+use Rattle.frame.specs.declared.Subconnection.{Subconnection}
+use Rattle.frame.specs.declared.Subconnection.the-variants.{Absent}
 use Rattle.frame.specs.declared.Reading.{Reading}
 use Rattle.frame.specs.declared.Reading.the-variants.{Frame, Refused}
 use Rattle.frame.specs.Control.{is}
@@ -25,6 +27,14 @@ isOf cid (Refused fault) = false
 
 abbrev pub isFrameOf : ℕ → List ℕ → Bool
 isFrameOf cid s = isOf cid (readingOf s)
+
+-- the Sub CID of a frame
+abbrev pub sessionOf : Reading → Subconnection
+sessionOf (Frame f from to) = f .subconnection
+sessionOf (Refused fault) = Absent
+
+abbrev pub sessionIn : List ℕ → Subconnection
+sessionIn s = sessionOf (readingOf s)
 
 -- an S-Refresh of the CID
 abbrev pub isRefreshIn : ℕ → Reading → Bool

@@ -20,16 +20,16 @@ pub data Call : Type 0 where
   deliver : List ℕ → Call
   show : ℕ → Call
 
--- a settings list that is loaded into whatever slice of records; or a call with its clock reading and the length of
--- the output lent to it, which is lent the slice as the last step left it
+-- a settings list that is loaded with a session number into whatever slice of records; or a call with its clock reading
+-- and the length of the output lent to it, which is lent the slice as the last step left it
 pub data Step : Type 0 where
-  load : List ℕ → List Record → Step
+  load : (number : ℕ) → List ℕ → List Record → Step
   call : (clock room : ℕ) → Call → Step
 
 abbrev pub actIn : Lent → ℕ → ℕ → Act → ℕ → Result
 actIn d t room start n = startIn d t n
 actIn d t room stop n = stopIn d t room n
-actIn d t room restart n = restartIn d t n
+actIn d t room (restart number) n = restartIn d t n number
 actIn d t room (setNotReady b) n = setNotReadyIn d t n b
 actIn d t room (setResult body) n = setResultIn d t n body
 actIn d t room clearResult n = clearResultIn d t n
@@ -47,7 +47,7 @@ callIn d t room (show n) = showIn d t room n
 
 -- a load has no entry and writes nothing
 abbrev pub stepIn : Lent → Step → Result
-stepIn d (load ws rs) = result (loadedOf ws rs .answer) Absent nothing (loadedOf ws rs .lent)
+stepIn d (load number ws rs) = result (loadedOf number ws rs .answer) Absent nothing (loadedOf number ws rs .lent)
 stepIn d (call t room c) = callIn d t room c
 
 -- a call's entry is the one at n

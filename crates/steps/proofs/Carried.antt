@@ -4,14 +4,17 @@ use mathlib.Core.Bool.{Bool, true, false, _&&_, _||_, not, Bool·beq}
 use mathlib.Core.List.{List}
 use Prim.Native.Nat.{ℕ, _<_}
 use lib.Dec.{lit<}
+use native.Mathlib.Omega.{arith}
 use lib.ListN.{length}
 use borrow.Author.Tests.{not-true, not-false}
 use Rattle.frame.specs.declared.Command.{Command}
 use Rattle.frame.specs.declared.Command.the-variants as K
+use Rattle.frame.specs.declared.Subconnection.{Subconnection}
+use Rattle.frame.specs.declared.Subconnection.the-variants.{Absent, Number}
 use Rattle.frame.specs.declared.Fields.{Fields}
-use Rattle.frame.specs.Control.{is}
+use Rattle.frame.specs.Control.{is, narrowed}
 use Rattle.frame.specs.Writing.{isWritable}
-use Rattle.frame.specs.RoundTrip.{Readable}
+use Rattle.frame.specs.RoundTrip.{SubconnectionFits, Readable}
 use mathlib.Mathlib.Data.Bool.Basic.{and-elim-left as and-left}
 use Rattle.endpoint.specs.declared.State.the-variants.{Refresh}
 use Rattle.endpoint.specs.Endpoint.{Endpoint}
@@ -19,7 +22,7 @@ use Rattle.endpoint.specs.declared.Answer.the-variants.{Done}
 use Rattle.endpoint.specs.Answers.{firstOf, isDone, isDropped, isEnded}
 use Rattle.endpoint.specs.Table.{isState, isSetup}
 use Rattle.endpoint.specs.Due.{requestDue, isPending, mayRequest}
-use Rattle.steps.specs.Frames.{dueData, setupData, sentFields}
+use Rattle.steps.specs.Frames.{dueData, setupData, sessionWith, sentFields}
 use Rattle.steps.specs.Calls.{Outcome, sendFaults, sendOf, stopFaults, stopOf}
 use Rattle.steps.specs.Deliveries.{requestFaults, repliedOf, isResult, replyFaults, takeReply, deliverOf}
 use Rattle.steps.specs.Laws.{Carries}
@@ -42,11 +45,20 @@ pub master-requests : (e : Endpoint) → mayRequest e ≡ true → e .settings .
 master-requests e h = not-true (e .settings .slave)
     (and-left (not (e .settings .slave)) (isSetup (e .state) && not (isPending (e .setup .pending))) h)
 
-reads-back : (k : Command) (application : Bool) (connection timestamp baseline : ℕ) (body : List ℕ)
-    → baseline < 65536 → isWritable (sentFields k application connection timestamp baseline) (length body) ≡ true
-    → Readable (sentFields k application connection timestamp baseline) body
-reads-back k application connection timestamp baseline body b w =
-    record { baseline = b; subconnection = tt; formed = w }
+-- the session number of a frame has 16 bits
+narrowed-fits : (s : Subconnection) → SubconnectionFits (narrowed s)
+narrowed-fits Absent = tt
+narrowed-fits (Number n) = omega arith
+
+session-fits : (e : Endpoint) (k : Command) → SubconnectionFits (sessionWith e k)
+session-fits e k = bcase (is k K.Connect) (λ h. rw h tt) (λ h. rw h (narrowed-fits (e .session)))
+
+reads-back : (k : Command) (application : Bool) (s : Subconnection) (connection timestamp baseline : ℕ) (body : List ℕ)
+    → SubconnectionFits s → baseline < 65536
+    → isWritable (sentFields k application s connection timestamp baseline) (length body) ≡ true
+    → Readable (sentFields k application s connection timestamp baseline) body
+reads-back k application s connection timestamp baseline body n b w =
+    record { baseline = b; subconnection = n; formed = w }
 
 module _ (e : Endpoint) (t : ℕ) where
   pub send-carries : (value : List ℕ) → Carries e (sendOf e t value .writes)
@@ -58,13 +70,13 @@ module _ (e : Endpoint) (t : ℕ) where
       let d = is-done a h in
       rw h (bcase (isState (e .state) Refresh)
       (λ k. rw k (
-        reads-back _ _ _ _ _ value (lit< tt)
+        reads-back _ _ _ _ _ _ value (narrowed-fits (e .session)) (lit< tt)
             (refresh-writable e t n (rw (sent-width e t n k d) (send-width-length (e .settings)))),
         refl,
         refl,
       ))
       (λ k. rw k (
-        reads-back _ _ _ _ _ (dueData e)
+        reads-back _ _ _ _ _ _ (dueData e) (session-fits e (requestDue e))
             (baseline-fits (requestDue e) t (e .setup .measured)) (request-writable e t),
         refl,
         sym (master-requests e (may-request e t n k d)),
@@ -77,7 +89,8 @@ module _ (e : Endpoint) (t : ℕ) where
       (λ h. rw h (bcase (e .settings .slave)
       (λ m. subst (Carries e) (sym (cond-true (e .settings .slave) _ _ m)) tt)
       (λ m. subst (Carries e) (sym (cond-false (e .settings .slave) _ _ m)) (
-        reads-back _ _ _ _ _ (setupData (e .settings) K.Disconnect) (lit< tt) (disconnect-writable e t),
+        reads-back _ _ _ _ _ _ (setupData (e .settings) K.Disconnect) (narrowed-fits (e .session)) (lit< tt)
+            (disconnect-writable e t),
         refl,
         sym m,
       ))))
@@ -92,7 +105,7 @@ module _ (e : Endpoint) (t : ℕ) where
       rw h (
         record {
           baseline = lit< tt;
-          subconnection = tt;
+          subconnection = narrowed-fits (e .session);
           formed = reply-writable e t f (isDone a) (isEnded a) body k (n .1) (request-width e f body (n .0));
         },
         refl,

@@ -31,7 +31,7 @@ module _ (e : Endpoint) (t : ℕ) (f : Fields) (body : List ℕ) where
   deliver-echo h = cond-true _ _ _ h
 
   module _ (h : Bool·beq (f .application) (e .settings .slave) ≡ false) where
-    pub deliver-refresh : is (f .command) K.Refresh ≡ true → deliverOf e t f body ≡ takeRefresh e t (f .timestamp) body
+    pub deliver-refresh : is (f .command) K.Refresh ≡ true → deliverOf e t f body ≡ takeRefresh e t (f .subconnection) (f .timestamp) body
     deliver-refresh k = cond-false _ _ _ h ∙ cond-true _ _ _ k
 
     pub deliver-request : is (f .command) K.Refresh ≡ false → e .settings .slave ≡ true

@@ -8,8 +8,9 @@ use lib.Dec.{eqb}
 use lib.ListN.{length}
 use borrow.Author.Tests.{leb-false, eqb-true, not-true, not-false}
 use Rattle.frame.specs.declared.Command.the-variants as K
+use Rattle.frame.specs.declared.Subconnection.{Subconnection}
 use Rattle.frame.specs.declared.Fields.{Fields}
-use Rattle.frame.specs.Control.{is}
+use Rattle.frame.specs.Control.{is, isSame}
 use Rattle.words.specs.Bytes.{same}
 use mathlib.Mathlib.Data.Bool.Basic.{and-elim-left as and-left, and-elim-right as and-right}
 use Rattle.words.proofs.Alike.{same-eq}
@@ -26,7 +27,7 @@ use Rattle.endpoint.specs.Due.{requestDue, isPending, answersTo, mayRequest, re
 use Rattle.endpoint.specs.Due.{mayQueueRead}
 use Rattle.errors.specs.Reading.{isRecord}
 use Rattle.endpoint.specs.Time.{isAbove, endedOf, timeOf}
-use Rattle.steps.specs.Frames.{nothing, setupData, dueData, showWidth, hasRecord}
+use Rattle.steps.specs.Frames.{nothing, setupData, dueData, showWidth, sessionOf, hasRecord}
 use Rattle.steps.specs.Calls.{Outcome, outcome, dropped, refused, startOf, restartOf, setNotReadyOf}
 use Rattle.steps.specs.Calls.{handFaults, setResultOf, clearResultOf, commandData, invokeOf, setRecordOf}
 use Rattle.steps.specs.Calls.{clearRecordOf, readErrorOf, writeErrorOf}
@@ -70,8 +71,8 @@ module _ (e : Endpoint) (t : ℕ) where
         comes = cond-true _ _ _ h;
       }
 
-  pub restart-done : restartOf e .answer ≡ Done → RestartDone e
-  restart-done d =
+  pub restart-done : (number : ℕ) → restartOf e number .answer ≡ Done → RestartDone e number
+  restart-done number d =
       let h = plain-done (isTerminated (e .state)) _ e _ (λ n. refl) d in
       record { terminated = h; comes = cond-true _ _ _ h }
 
@@ -210,13 +211,14 @@ module _ (e : Endpoint) (t : ℕ) where
       (λ h. absurd (not-done r (sym (rw h at d))))
 
   -- ---- deliver
-  pub refresh-done : (stamp : ℕ) (body : List ℕ) → takeRefresh e t stamp body .answer ≡ Done
-      → RefreshTaken e t stamp body
-  refresh-done stamp body d =
-      let f = first-done (refreshFaults e t stamp (length body)) d in
+  pub refresh-done : (m : Subconnection) (stamp : ℕ) (body : List ℕ) → takeRefresh e t m stamp body .answer ≡ Done
+      → RefreshTaken e t m stamp body
+  refresh-done m stamp body d =
+      let f = first-done (refreshFaults e t m stamp (length body)) d in
       let w = eqb (length body) (showWidth (e .settings)) in
       record {
         refresh = not-false (isState (e .state) Refresh) (f .turn);
+        session = not-false (isSame (sessionOf e) m) (f .session);
         width = eqb-true (length body) (showWidth (e .settings)) (not-false w (f .width));
         above = not-false (isAbove (e .timestamps .accepted) stamp) (f .repeat);
         near = f .ahead;
@@ -240,6 +242,7 @@ module _ (e : Endpoint) (t : ℕ) where
       let u : not (isUsers (f .command) || s) ≡ false = rw k at (n .unequal) in
       record {
         turn = takes f (n .turn);
+        session = λ i. not-false (isSame (sessionOf e) (f .subconnection)) (rw i at (n .session));
         above = not-false (isAbove (e .timestamps .accepted) (f .timestamp)) (n .repeat);
         width = not-false (isWidth (e .settings) (f .command) (length body)) (n .width);
         has = λ i. rw i at (and-right (not (isNo (nextOf (f .command) (e .state))))
@@ -288,6 +291,7 @@ module _ (e : Endpoint) (t : ℕ) where
             (not-false (answersTo (e .setup .pending) (f .timestamp)) (n .repeat));
         command = and-right (isPending (e .setup .pending)) (is (f .command) due)
             (and-right (f .ack) z (and-right x y turn));
+        session = n .session;
         sound = u .0;
         reads = λ i. not-false (isRecord body) (rw i at (n .norecord));
         contents = λ i. same-eq body (dueData e) (not-false s (rw i at (u .1)));
@@ -302,7 +306,7 @@ module _ (e : Endpoint) (t : ℕ) where
       (λ h. bcase (is (f .command) K.Refresh)
       (λ k.
       let q = deliver-refresh e t f body h k in
-      let p : firstOf (refreshFaults e t (f .timestamp) (length body)) ≡ Dropped r = sym
+      let p : firstOf (refreshFaults e t (f .subconnection) (f .timestamp) (length body)) ≡ Dropped r = sym
       (ap (λ (o : Outcome). o .answer) q) ∙ d in
       q ∙ rw p)
       (λ k. bcase (e .settings .slave)

@@ -37,6 +37,7 @@ past false r x h = (refl, h)
 
 pub record NotDropped (f : Faults) : Type 0 where
   pub turn : f .turn ≡ false
+  pub session : f .session ≡ false
   pub norecord : f .norecord ≡ false
   pub width : f .width ≡ false
   pub repeat : f .repeat ≡ false
@@ -46,18 +47,20 @@ pub record NotDropped (f : Faults) : Type 0 where
 pub not-dropped : (f : Faults) → f .exhausted ≡ false → isDropped (firstOf f) ≡ false → NotDropped f
 not-dropped f x h =
     let t = past (f .turn) R.Turn _ h in
-    let n = past (f .norecord) R.Record _ (t .1) in
+    let s = past (f .session) R.Session _ (t .1) in
+    let n = past (f .norecord) R.Record _ (s .1) in
     let w = past (f .width) R.Width _ (n .1) in
     let p = past (f .repeat) R.Repeat _ (rw x at (w .1)) in
     let a = past (f .ahead) R.Ahead _ (p .1) in
-    record { turn = t .0; norecord = n .0; width = w .0; repeat = p .0; ahead = a .0 }
+    record { turn = t .0; session = s .0; norecord = n .0; width = w .0; repeat = p .0; ahead = a .0 }
 
 -- where nothing can end the connection, an answer that is not dropped is not too soon either
 pub not-soon : (f : Faults) → f .exhausted ≡ false → f .late ≡ false → f .unequal ≡ false
     → isDropped (firstOf f) ≡ false → f .soon ≡ false
 not-soon f x l u h =
     let t = past (f .turn) R.Turn _ h in
-    let n = past (f .norecord) R.Record _ (t .1) in
+    let s = past (f .session) R.Session _ (t .1) in
+    let n = past (f .norecord) R.Record _ (s .1) in
     let w = past (f .width) R.Width _ (n .1) in
     let p = past (f .repeat) R.Repeat _ (rw x at (w .1)) in
     let a = past (f .ahead) R.Ahead _ (p .1) in
@@ -71,6 +74,7 @@ is-done (Ended r) h = absurd (true≢false (sym h))
 
 pub record NoFault (f : Faults) : Type 0 where
   pub turn : f .turn ≡ false
+  pub session : f .session ≡ false
   pub norecord : f .norecord ≡ false
   pub width : f .width ≡ false
   pub exhausted : f .exhausted ≡ false
@@ -91,16 +95,18 @@ ends false r x h = (refl, h)
 pub first-done : (f : Faults) → firstOf f ≡ Done → NoFault f
 first-done f h =
     let t = drops (f .turn) R.Turn _ h in
-    let n = drops (f .norecord) R.Record _ (t .1) in
+    let s = drops (f .session) R.Session _ (t .1) in
+    let n = drops (f .norecord) R.Record _ (s .1) in
     let w = drops (f .width) R.Width _ (n .1) in
     let x = ends (f .exhausted) R.Exhausted _ (w .1) in
     let p = drops (f .repeat) R.Repeat _ (x .1) in
     let a = drops (f .ahead) R.Ahead _ (p .1) in
     let l = ends (f .late) R.Late _ (a .1) in
     let u = ends (f .unequal) R.Unequal _ (l .1) in
-    let s = drops (f .soon) R.TooSoon _ (u .1) in
+    let q = drops (f .soon) R.TooSoon _ (u .1) in
     record {
       turn = t .0;
+      session = s .0;
       norecord = n .0;
       width = w .0;
       exhausted = x .0;
@@ -108,7 +114,7 @@ first-done f h =
       ahead = a .0;
       late = l .0;
       unequal = u .0;
-      soon = s .0;
+      soon = q .0;
     }
 
 -- ---- the length of what is sent and taken

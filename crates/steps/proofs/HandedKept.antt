@@ -34,8 +34,8 @@ use Rattle.steps.specs.Frames as W
 use Rattle.steps.specs.Frames.{paddedOf, hasRecord}
 use Rattle.steps.specs.Calls.{Outcome, outcome, dropped, handFaults, commandData, sendFaults, sendOf}
 use Rattle.steps.specs.Calls.{stopFaults, disconnectOf}
-use Rattle.steps.specs.Deliveries.{refreshFaults, isTurn, requestFaults, isResult, repliesRecord, replyFaults}
-use Rattle.steps.specs.Deliveries.{takeRefresh, takeRequest, takeReply, deliverOf}
+use Rattle.steps.specs.Deliveries.{refreshFaults, isTurn, requestFaults, isResult, lacksNumber, repliesRecord}
+use Rattle.steps.specs.Deliveries.{replyFaults, takeRefresh, takeRequest, takeReply, deliverOf}
 use Rattle.steps.specs.Steps.{Act, start, stop, restart, setNotReady, setResult, clearResult, setRecord}
 use Rattle.steps.specs.Steps.{clearRecord, invoke, readError, writeError, actOf}
 use Rattle.steps.specs.Steps.{Call, act, send, deliver, show, stepOf}
@@ -115,8 +115,8 @@ module _ (e : Endpoint) (w x : List ℕ) where
         let a = firstOf (stopFaults e t) in
         either (isDropped a) (stays a e nothing (no-words a) (no-record a))
         (stays Done (stoppedOf e t) (disconnectOf e t) refl refl)
-    act-left restart =
-        either (isTerminated (e .state)) (stays Done (restartedOf e) nothing refl refl) (refused-turn refl refl)
+    act-left (restart number) =
+        either (isTerminated (e .state)) (stays Done (restartedOf e number) nothing refl refl) (refused-turn refl refl)
     act-left (setNotReady r) =
         either (e .settings .slave) (stays Done (withNotReady r e) nothing refl refl) (refused-turn refl refl)
     act-left (setResult body) =
@@ -170,10 +170,10 @@ module _ (e : Endpoint) (w x : List ℕ) where
         refused : Left (deliver f body) (dropped e (Dropped R.Turn)) (dropped (held e) (Dropped R.Turn))
         refused = refused-turn refl refl
 
-        refresh-left : Left (deliver f body) (takeRefresh e t (f .timestamp) body)
-            (takeRefresh (held e) t (f .timestamp) body)
+        refresh-left : Left (deliver f body) (takeRefresh e t (f .subconnection) (f .timestamp) body)
+            (takeRefresh (held e) t (f .subconnection) (f .timestamp) body)
         refresh-left =
-            let a = firstOf (refreshFaults e t (f .timestamp) (length body)) in
+            let a = firstOf (refreshFaults e t (f .subconnection) (f .timestamp) (length body)) in
             let next = refreshedOf e t (f .timestamp) (paddedOf body) in
             record { answered = refl; writes = refl; left = by-answer a e (endedOf e) next refl }
 
@@ -215,6 +215,7 @@ module _ (e : Endpoint) (w x : List ℕ) where
         reply-answer d =
             firstOf (setupFaults
             (not (isSetup (e .state) && (f .ack && (isPending (e .setup .pending) && is (f .command) (requestDue e)))))
+            (lacksNumber e f)
             (repliesRecord (f .command) && not (isRecord body))
             (not (is (f .command) K.ReadErrorInfo || eqb (length body) (length d)))
             (not (answersTo (e .setup .pending) (f .timestamp)))
@@ -231,8 +232,8 @@ module _ (e : Endpoint) (w x : List ℕ) where
         reply-left =
             let a = firstOf (replyFaults e f body) in
             let next : heardOf (held e) t f ≡ held (heardOf e t f) =
-            by-test (f .busy) (dueAgainOf e t) (cond (isCommandDue e) (performedOf e t) (confirmedOf e t))
-            (by-test (isCommandDue e) (performedOf e t) (confirmedOf e t) refl) in
+            by-test (f .busy) (dueAgainOf e t) (cond (isCommandDue e) (performedOf e t) (confirmedOf e t f))
+            (by-test (isCommandDue e) (performedOf e t) (confirmedOf e t f) refl) in
             subst (Left (deliver f body) (takeReply e t f body)) (sym (ap reply-with due-apart))
             (record { answered = refl; writes = refl; left = by-answer a e (endedOf e) (heardOf e t f) next })
 

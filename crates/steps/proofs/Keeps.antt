@@ -74,8 +74,8 @@ module _ (e : Endpoint) (t : ℕ) where
   deliver-keeps f body =
       let s = kept e in
       let more = moreFollows body in
-      let p : kept (takeRefresh e t (f .timestamp) body .endpoint) ≡ s =
-      left-keeps s (firstOf (refreshFaults e t (f .timestamp) (length body))) e (endedOf e)
+      let p : kept (takeRefresh e t (f .subconnection) (f .timestamp) body .endpoint) ≡ s =
+      left-keeps s (firstOf (refreshFaults e t (f .subconnection) (f .timestamp) (length body))) e (endedOf e)
       (refreshedOf e t (f .timestamp) (paddedOf body)) refl refl refl in
       let q : kept (takeRequest e t f body .endpoint) ≡ s =
       left-keeps s (firstOf (requestFaults e f body)) e (endedBy e (f .timestamp)) (takenOf e t f more) refl refl
@@ -85,8 +85,8 @@ module _ (e : Endpoint) (t : ℕ) where
       (either-keeps s (isHeldBack e (f .command)) (deferredOf e t f) (advancedOf e t f) refl refl))) in
       let r : kept (takeReply e t f body .endpoint) ≡ s =
       left-keeps s (firstOf (replyFaults e f body)) e (endedOf e) (heardOf e t f) refl refl
-      (either-keeps s (f .busy) (dueAgainOf e t) (cond (isCommandDue e) (performedOf e t) (confirmedOf e t)) refl
-      (either-keeps s (isCommandDue e) (performedOf e t) (confirmedOf e t) refl refl)) in
+      (either-keeps s (f .busy) (dueAgainOf e t) (cond (isCommandDue e) (performedOf e t) (confirmedOf e t f)) refl
+      (either-keeps s (isCommandDue e) (performedOf e t) (confirmedOf e t f) refl refl)) in
       let of : Outcome → Kept = λ o. kept (o .endpoint) in
       bcase (Bool·beq (f .application) (e .settings .slave)) (λ h. ap of (deliver-echo e t f body h))
       (λ h. bcase (is (f .command) K.Refresh) (λ k. ap of (deliver-refresh e t f body h k) ∙ p)

@@ -56,7 +56,7 @@ pub by-act : (e : Endpoint) (t : ℕ) (P : Act → Type 0) → P stop
 by-act e t P p q start =
     q start (quiet true (not (e .settings .slave) && isState (e .state) Close) _ e _ (λ h. refl) refl refl)
 by-act e t P p q stop = p
-by-act e t P p q restart = q restart (quiet false (isTerminated (e .state)) _ e _ (λ h. refl) refl refl)
+by-act e t P p q (restart number) = q (restart number) (quiet false (isTerminated (e .state)) _ e _ (λ h. refl) refl refl)
 by-act e t P p q (setNotReady b) = q (setNotReady b) (quiet false (e .settings .slave) _ e _ (λ h. refl) refl refl)
 by-act e t P p q (setResult body) =
     q (setResult body)

@@ -96,8 +96,8 @@ module _ (e : Endpoint) (b : List ℕ) (h : Tidy (withBytes b e)) where
     act-left stop =
         let a = firstOf (stopFaults e t) in
         either (isDropped a) (kept a e nothing refl refl) (wiped Done (stoppedOf e t) (disconnectOf e t))
-    act-left restart =
-        either (isTerminated (e .state)) (wiped Done (restartedOf e) nothing)
+    act-left (restart number) =
+        either (isTerminated (e .state)) (wiped Done (restartedOf e number) nothing)
         (kept (Dropped R.Turn) e nothing refl refl)
     act-left (setNotReady r) =
         either (e .settings .slave) (kept Done (withNotReady r e) nothing refl refl)
@@ -137,10 +137,10 @@ module _ (e : Endpoint) (b : List ℕ) (h : Tidy (withBytes b e)) where
 
     module _ (f : Fields) (body : List ℕ) where
       refresh-left : is (f .command) K.Refresh ≡ true
-          → Left (deliver f body) (takeRefresh e t (f .timestamp) body)
-          (takeRefresh (withBytes b e) t (f .timestamp) body)
+          → Left (deliver f body) (takeRefresh e t (f .subconnection) (f .timestamp) body)
+          (takeRefresh (withBytes b e) t (f .subconnection) (f .timestamp) body)
       refresh-left y =
-          by-answer (firstOf (refreshFaults e t (f .timestamp) (length body))) (endedOf e)
+          by-answer (firstOf (refreshFaults e t (f .subconnection) (f .timestamp) (length body))) (endedOf e)
           (filled (countedAge (ageOf e t (f .timestamp))) (refreshedOf e t (f .timestamp) (paddedOf body)) nothing y)
 
       abbrev more : Bool
@@ -160,7 +160,7 @@ module _ (e : Endpoint) (b : List ℕ) (h : Tidy (withBytes b e)) where
             → Left (deliver f body) (outcome Done (heardOf e t f) w) (outcome Done (heardOf (withBytes b e) t f) w)
         heard-left w =
             leaves (f .busy) (kept Done (dueAgainOf e t) w n refl)
-            (leaves (isCommandDue e) (kept Done (performedOf e t) w n refl) (wiped Done (confirmedOf e t) w))
+            (leaves (isCommandDue e) (kept Done (performedOf e t) w n refl) (wiped Done (confirmedOf e t f) w))
 
         request-left : Left (deliver f body) (takeRequest e t f body) (takeRequest (withBytes b e) t f body)
         request-left = by-answer (firstOf (requestFaults e f body)) (endedBy e (f .timestamp)) (taken-left _)

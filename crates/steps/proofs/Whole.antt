@@ -11,8 +11,9 @@ use lib.Seq.{length-take-le, take-all}
 use borrow.Author.Tests.{le-leb, leb-true, leb-false, lt-ltb, eq-eqb}
 use Rattle.frame.specs.declared.Command.{Command}
 use Rattle.frame.specs.declared.Command.the-variants as K
+use Rattle.frame.specs.declared.Subconnection.{Subconnection}
 use Rattle.frame.specs.declared.Fields.{Fields}
-use Rattle.frame.specs.Control.{is, waitsForStation, mayBeBusy, hasForm}
+use Rattle.frame.specs.Control.{is, isAbsent, waitsForStation, mayBeBusy, hasForm}
 use Rattle.frame.specs.Writing.{frameBytes, isBodyLength, isWritable, writtenOf, headOf, HeadSays}
 use mathlib.Mathlib.Data.Bool.Basic.{and-elim-left as and-left, and-elim-right as and-right, and-intro as both}
 use Rattle.frame.proofs.Lengths.{can-be-written}
@@ -32,7 +33,7 @@ use Rattle.endpoint.specs.Table.{requestOf}
 use Rattle.endpoint.specs.Due.{isCommandDue, queuedIn, requestDue}
 use Rattle.endpoint.specs.Time.{span, timeOf}
 use Rattle.steps.specs.Frames.{setupData, isCount, widthOf, paddedOf, handedOver, isRecordCount, recordWidth}
-use Rattle.steps.specs.Frames.{recordIn, dataOf, dueData, sendWidth, showWidth, sentFields}
+use Rattle.steps.specs.Frames.{recordIn, dataOf, dueData, sendWidth, showWidth, sessionOf, sessionWith, sentFields}
 use Rattle.steps.specs.Frames.{ackFields, baselineOf, requestFields, refreshFields, disconnectFields, replyFields}
 use Rattle.steps.specs.Frames.{hasResult, isPerformed, isBusy, replyData}
 use Rattle.steps.proofs.Keeps.{bcase}
@@ -159,19 +160,26 @@ reply-length e k done body l =
     (λ i. rw (i, record-length (e .errorinfo)) (record-width-length (e .errorinfo .count))) (λ i. rw i l)))
 
 -- ---- the form of each frame
-request-form : (s : State) (connection timestamp t measured : ℕ)
-    → hasForm (sentFields (requestOf s) false connection timestamp (baselineOf (requestOf s) t measured)) ≡ true
+-- a request carries no session number, or is not S-Connect
+abbrev Carried : Subconnection → Command → Type 0
+Carried n k = (isAbsent n || not (is k K.Connect)) ≡ true
+
+carried : (e : Endpoint) (k : Command) → Carried (sessionWith e k) k
+carried e k = bcase (is k K.Connect) (λ h. rw h) (λ h. rw h (or-true (isAbsent (sessionOf e))))
+
+request-form : (s : State) (n : Subconnection) (connection timestamp t measured : ℕ) → Carried n (requestOf s)
+    → hasForm (sentFields (requestOf s) false n connection timestamp (baselineOf (requestOf s) t measured)) ≡ true
 unfolding hasForm
-request-form Close connection timestamp t measured = refl
-request-form Starting connection timestamp t measured = refl
-request-form EstablishPending connection timestamp t measured = refl
-request-form Establish connection timestamp t measured = refl
-request-form ParamVerify connection timestamp t measured = refl
-request-form FuncRunning connection timestamp t measured = refl
-request-form RefreshPending connection timestamp t measured = rw (or-true (eqb ((t - measured) % 65536) 0))
-request-form Refresh connection timestamp t measured = refl
-request-form Terminate connection timestamp t measured = refl
-request-form TerminateMore connection timestamp t measured = refl
+request-form Close n connection timestamp t measured c = c
+request-form Starting n connection timestamp t measured c = c
+request-form EstablishPending n connection timestamp t measured c = c
+request-form Establish n connection timestamp t measured c = c
+request-form ParamVerify n connection timestamp t measured c = c
+request-form FuncRunning n connection timestamp t measured c = c
+request-form RefreshPending n connection timestamp t measured c = rw (or-true (eqb ((t - measured) % 65536) 0)) c
+request-form Refresh n connection timestamp t measured c = c
+request-form Terminate n connection timestamp t measured c = c
+request-form TerminateMore n connection timestamp t measured c = c
 
 -- OBL has 16 bits
 pub baseline-fits : (k : Command) (t measured : ℕ) → baselineOf k t measured < 65536
@@ -182,27 +190,27 @@ baseline-fits k t measured = go (is k K.RefreshGo)
     go false = lit< tt
 
 -- a reply: to any command but S-Refresh and S-Disconnect
-reply-form : (k : Command) (busy error : Bool) (connection timestamp : ℕ) → is k K.Refresh ≡ false
+reply-form : (k : Command) (busy error : Bool) (n : Subconnection) (connection timestamp : ℕ) → is k K.Refresh ≡ false
     → is k K.Disconnect ≡ false → (not busy || mayBeBusy k) ≡ true
-    → hasForm (ackFields k busy error connection timestamp) ≡ true
+    → hasForm (ackFields k busy error n connection timestamp) ≡ true
 unfolding hasForm
-reply-form k busy error connection timestamp r d b = rw (r, d, b, or-true (not error))
+reply-form k busy error n connection timestamp r d b = rw (r, d, b, or-true (not error), or-true (isAbsent n))
 
-queued-form : (q : Queue) (connection timestamp t measured : ℕ)
-    → hasForm (sentFields (queuedIn q) false connection timestamp (baselineOf (queuedIn q) t measured)) ≡ true
+queued-form : (q : Queue) (n : Subconnection) (connection timestamp t measured : ℕ) → Carried n (queuedIn q)
+    → hasForm (sentFields (queuedIn q) false n connection timestamp (baselineOf (queuedIn q) t measured)) ≡ true
 unfolding hasForm
-queued-form Q.Empty connection timestamp t measured = refl
-queued-form Q.InvokeFunc connection timestamp t measured = refl
-queued-form Q.ReadErrorInfo connection timestamp t measured = refl
-queued-form Q.WriteErrorInfo connection timestamp t measured = refl
-queued-form Q.Closed connection timestamp t measured = refl
+queued-form Q.Empty n connection timestamp t measured c = c
+queued-form Q.InvokeFunc n connection timestamp t measured c = c
+queued-form Q.ReadErrorInfo n connection timestamp t measured c = c
+queued-form Q.WriteErrorInfo n connection timestamp t measured c = c
+queued-form Q.Closed n connection timestamp t measured c = c
 
 -- the queued command in S-RefreshReady's place
-due-form : (e : Endpoint) (connection timestamp t measured : ℕ)
-    → hasForm (sentFields (requestDue e) false connection timestamp (baselineOf (requestDue e) t measured)) ≡ true
-due-form e connection timestamp t measured =
-    bcase (isCommandDue e) (λ h. rw h (queued-form (e .setup .queue) connection timestamp t measured))
-    (λ h. rw h (request-form (e .state) connection timestamp t measured))
+due-form : (e : Endpoint) (n : Subconnection) (connection timestamp t measured : ℕ) → Carried n (requestDue e)
+    → hasForm (sentFields (requestDue e) false n connection timestamp (baselineOf (requestDue e) t measured)) ≡ true
+due-form e n connection timestamp t measured c =
+    bcase (isCommandDue e) (λ h. rw h (queued-form (e .setup .queue) n connection timestamp t measured (rw h at c)))
+    (λ h. rw h (request-form (e .state) n connection timestamp t measured (rw h at c)))
 
 -- Busy in the replies that may have it: a done, n not ready, w waits for the station, i S-InvokeFunc, r has its result
 busy-fits : (a n w i r : Bool) → (not (a && ((n && w) || (i && not r))) || (w || i)) ≡ true
@@ -225,16 +233,18 @@ module _ (e : Endpoint) (t : ℕ) where
   pub request-writable : isWritable (requestFields e t) (length (dueData e)) ≡ true
   request-writable =
       writable (requestFields e t) (length (dueData e))
-      (due-form e (e .settings .connection) (timeOf e t) t (e .setup .measured)) (omega arith) (due-length e)
+      (due-form e (sessionWith e (requestDue e)) (e .settings .connection) (timeOf e t) t (e .setup .measured)
+      (carried e (requestDue e))) (omega arith) (due-length e)
 
   pub refresh-writable : (n : ℕ) → isBodyLength n ≡ true → isWritable (refreshFields e t) n ≡ true
   unfolding hasForm
-  refresh-writable n l = writable (refreshFields e t) n refl (omega arith) l
+  refresh-writable n l = writable (refreshFields e t) n (or-true (isAbsent (sessionOf e))) (omega arith) l
 
   pub disconnect-writable : isWritable (disconnectFields e t) (length (setupData (e .settings) K.Disconnect)) ≡ true
   unfolding hasForm
   disconnect-writable =
-      writable (disconnectFields e t) (length (setupData (e .settings) K.Disconnect)) refl (omega arith)
+      writable (disconnectFields e t) (length (setupData (e .settings) K.Disconnect)) (or-true (isAbsent (sessionOf e)))
+      (omega arith)
       (setup-length (e .settings) K.Disconnect)
 
   pub reply-writable : (f : Fields) (done error : Bool) (body : List ℕ) → is (f .command) K.Refresh ≡ false
@@ -244,7 +254,7 @@ module _ (e : Endpoint) (t : ℕ) where
   reply-writable f done error body r d l =
       let busy = done && isBusy e (f .command) (length body) in
       writable (replyFields e f busy error) (length (replyData e (f .command) done body))
-      (reply-form (f .command) busy error (e .settings .connection) (f .timestamp % span) r d
+      (reply-form (f .command) busy error (sessionOf e) (e .settings .connection) (f .timestamp % span) r d
       (busy-fits done (e .station .notready) (waitsForStation (f .command)) (is (f .command) K.InvokeFunc)
       (hasResult e (length body)))) (omega arith) (reply-length e (f .command) done body l)
 

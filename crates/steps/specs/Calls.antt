@@ -50,9 +50,10 @@ startOf e t =
     cond (not (e .settings .slave) && isState (e .state) Close) (outcome Done (startedOf e t) nothing)
     (dropped e (Dropped R.Turn))
 
--- ---- restart: from Terminate
-abbrev pub restartOf : Endpoint → Outcome
-restartOf e = cond (isTerminated (e .state)) (outcome Done (restartedOf e) nothing) (dropped e (Dropped R.Turn))
+-- ---- restart: from Terminate, with a session number
+abbrev pub restartOf : Endpoint → ℕ → Outcome
+restartOf e number =
+    cond (isTerminated (e .state)) (outcome Done (restartedOf e number) nothing) (dropped e (Dropped R.Turn))
 
 -- ---- not ready, set or cleared: a slave's, in any state
 abbrev pub setNotReadyOf : Endpoint → Bool → Outcome

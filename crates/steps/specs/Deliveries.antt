@@ -6,8 +6,9 @@ use lib.Dec.{eqb}
 use lib.ListN.{length}
 use Rattle.frame.specs.declared.Command.{Command}
 use Rattle.frame.specs.declared.Command.the-variants as K
+use Rattle.frame.specs.declared.Subconnection.{Subconnection}
 use Rattle.frame.specs.declared.Fields.{Fields}
-use Rattle.frame.specs.Control.{is}
+use Rattle.frame.specs.Control.{is, isAbsent, isSame}
 use Rattle.frame.specs.Writing.{isBodyLength}
 use Rattle.words.specs.Bytes.{same}
 use Rattle.errors.specs.Reading.{isRecord, moreFollows}
@@ -24,33 +25,42 @@ use Rattle.endpoint.specs.Due.{requestDue, isPending, answersTo}
 use Rattle.endpoint.specs.Time.{ageOf, isAbove, isTooFarAhead, allowanceOf, isTooLate, endedOf}
 use Rattle.transitions.specs.ByFrame.{refreshedOf, endedBy, takenOf, heardOf}
 use Rattle.steps.specs.Frames.{Written, nothing, frame, setupData, dueData, showWidth, replyFields, isBusy}
-use Rattle.steps.specs.Frames.{hasRecord, replyData}
+use Rattle.steps.specs.Frames.{sessionOf, hasRecord, replyData}
 use Rattle.steps.specs.Frames as W
 use Rattle.steps.specs.Frames.{paddedOf}
 use Rattle.steps.specs.Calls.{Outcome, outcome, dropped}
 
+-- ---- the session number
+-- another number than the endpoint's own, or none where it has one: number 21
+abbrev pub isForeign : Endpoint → Subconnection → Bool
+isForeign e session = not (isSame (sessionOf e) session)
+
 -- ---- S-Refresh, at either end
 -- whose timestamp has this age
-abbrev pub refreshFaultsAt : Endpoint → ℕ → ℕ → ℕ → Faults
-refreshFaultsAt e age stamp width =
-    valueFaults (not (isState (e .state) Refresh)) (not (eqb width (showWidth (e .settings))))
+abbrev pub refreshFaultsAt : Endpoint → ℕ → Subconnection → ℕ → ℕ → Faults
+refreshFaultsAt e age session stamp width =
+    valueFaults (not (isState (e .state) Refresh)) (isForeign e session) (not (eqb width (showWidth (e .settings))))
     (not (isAbove (e .timestamps .accepted) stamp))
     (isTooFarAhead age (allowanceOf (e .settings)))
     (isTooLate age (e .settings .age))
 
 -- the same, by the endpoint's time
-abbrev pub refreshFaults : Endpoint → ℕ → ℕ → ℕ → Faults
-refreshFaults e t stamp width = refreshFaultsAt e (ageOf e t stamp) stamp width
+abbrev pub refreshFaults : Endpoint → ℕ → Subconnection → ℕ → ℕ → Faults
+refreshFaults e t session stamp width = refreshFaultsAt e (ageOf e t stamp) session stamp width
 
-abbrev pub takeRefresh : Endpoint → ℕ → ℕ → List ℕ → Outcome
-takeRefresh e t stamp body =
-    let a = firstOf (refreshFaults e t stamp (length body)) in
+abbrev pub takeRefresh : Endpoint → ℕ → Subconnection → ℕ → List ℕ → Outcome
+takeRefresh e t session stamp body =
+    let a = firstOf (refreshFaults e t session stamp (length body)) in
     outcome a (leftBy a e (endedOf e) (refreshedOf e t stamp (paddedOf body))) nothing
 
 -- ---- a request at a slave
 -- the state takes it; S-ReadErrorInfo with an error record set only
 abbrev pub isTurn : Endpoint → Command → Bool
 isTurn e k = not (isNo (nextOf k (e .state))) && (not (is k K.ReadErrorInfo) || hasRecord e)
+
+-- of S-Connect no session number is asked
+abbrev pub lacksSession : Endpoint → Fields → Bool
+lacksSession e f = not (is (f .command) K.Connect) && isForeign e (f .subconnection)
 
 -- it is S-WriteErrorInfo, and its S-Data is no error record
 abbrev pub lacksRecord : Command → List ℕ → Bool
@@ -70,6 +80,7 @@ isExpected s k body = is k K.Disconnect || (isUsers k || same body (setupData s 
 abbrev pub requestFaults : Endpoint → Fields → List ℕ → Faults
 requestFaults e f body =
     setupFaults (not (isTurn e (f .command)))
+    (lacksSession e f)
     (lacksRecord (f .command) body)
     (not (isWidth (e .settings) (f .command) (length body)))
     (not (isAbove (e .timestamps .accepted) (f .timestamp)))
@@ -93,6 +104,11 @@ takeRequest e t f body =
 abbrev pub isResult : Fields → Bool
 isResult f = (is (f .command) K.InvokeFunc && not (f .busy)) || is (f .command) K.ReadErrorInfo
 
+-- S-Connect's brings the session number, whichever it is; all others have it
+abbrev pub lacksNumber : Endpoint → Fields → Bool
+lacksNumber e f =
+    cond (is (f .command) K.Connect) (isAbsent (f .subconnection)) (isForeign e (f .subconnection))
+
 -- the replies that have to be error records
 abbrev pub repliesRecord : Command → Bool
 repliesRecord k = is k K.ReadErrorInfo || is k K.WriteErrorInfo
@@ -101,6 +117,7 @@ abbrev pub replyFaults : Endpoint → Fields → List ℕ → Faults
 replyFaults e f body =
     setupFaults
     (not (isSetup (e .state) && (f .ack && (isPending (e .setup .pending) && is (f .command) (requestDue e)))))
+    (lacksNumber e f)
     (repliesRecord (f .command) && not (isRecord body))
     (not (is (f .command) K.ReadErrorInfo || eqb (length body) (length (dueData e))))
     (not (answersTo (e .setup .pending) (f .timestamp)))
@@ -115,5 +132,5 @@ takeReply e t f body =
 abbrev pub deliverOf : Endpoint → ℕ → Fields → List ℕ → Outcome
 deliverOf e t f body =
     cond (Bool·beq (f .application) (e .settings .slave)) (dropped e (Dropped R.Echo))
-    (cond (is (f .command) K.Refresh) (takeRefresh e t (f .timestamp) body)
+    (cond (is (f .command) K.Refresh) (takeRefresh e t (f .subconnection) (f .timestamp) body)
     (cond (e .settings .slave) (takeRequest e t f body) (takeReply e t f body)))

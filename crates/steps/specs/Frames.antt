@@ -6,10 +6,11 @@ use lib.Dec.{eqb, leb}
 use lib.ListN.{length, take, drop, replicate}
 use Rattle.frame.specs.declared.Command.{Command}
 use Rattle.frame.specs.declared.Command.the-variants as K
+use Rattle.frame.specs.declared.Subconnection.{Subconnection}
 use Rattle.frame.specs.declared.Subconnection.the-variants.{Absent}
 use Rattle.frame.specs.declared.Fields.{Fields}
 use Rattle.words.specs.Words.{wordBytes}
-use Rattle.frame.specs.Control.{is}
+use Rattle.frame.specs.Control.{is, narrowed}
 use Rattle.frame.specs.Writing.{frameBytes}
 use Rattle.endpoint.specs.declared.Settings.{Settings}
 use Rattle.endpoint.specs.Endpoint.{Endpoint, Words}
@@ -97,31 +98,38 @@ sendWidth s = widthOf (cond (s .slave) (s .slavewords) (s .masterwords))
 abbrev pub showWidth : Settings → ℕ
 showWidth s = widthOf (cond (s .slave) (s .masterwords) (s .slavewords))
 
+-- the session number that an endpoint's frames carry (of 16 bits), if it has one; an S-Connect request carries none
+abbrev pub sessionOf : Endpoint → Subconnection
+sessionOf e = narrowed (e .session)
+
+abbrev pub sessionWith : Endpoint → Command → Subconnection
+sessionWith e k = cond (is k K.Connect) Absent (sessionOf e)
+
 -- a frame that is no reply: a request, S-Refresh or S-Disconnect; Application tells the direction
-abbrev pub sentFields : Command → Bool → ℕ → ℕ → ℕ → Fields
-sentFields k application connection timestamp baseline = record {
+abbrev pub sentFields : Command → Bool → Subconnection → ℕ → ℕ → ℕ → Fields
+sentFields k application session connection timestamp baseline = record {
   command = k;
   ack = false;
   busy = false;
   error = false;
   sequence = false;
   application = application;
-  subconnection = Absent;
+  subconnection = session;
   connection = connection;
   timestamp = timestamp;
   baseline = baseline;
 }
 
 -- a slave's reply
-abbrev pub ackFields : Command → Bool → Bool → ℕ → ℕ → Fields
-ackFields k busy error connection timestamp = record {
+abbrev pub ackFields : Command → Bool → Bool → Subconnection → ℕ → ℕ → Fields
+ackFields k busy error session connection timestamp = record {
   command = k;
   ack = true;
   busy = busy;
   error = error;
   sequence = false;
   application = true;
-  subconnection = Absent;
+  subconnection = session;
   connection = connection;
   timestamp = timestamp;
   baseline = 0;
@@ -134,20 +142,22 @@ baselineOf k t measured = cond (is k K.RefreshGo) ((t - measured) % 65536) 0
 -- a master's setup request
 abbrev pub requestFields : Endpoint → ℕ → Fields
 requestFields e t =
-    sentFields (requestDue e) false (e .settings .connection) (timeOf e t)
+    sentFields (requestDue e) false (sessionWith e (requestDue e)) (e .settings .connection) (timeOf e t)
     (baselineOf (requestDue e) t (e .setup .measured))
 
 -- S-Refresh, of either end
 abbrev pub refreshFields : Endpoint → ℕ → Fields
-refreshFields e t = sentFields K.Refresh (e .settings .slave) (e .settings .connection) (timeOf e t) 0
+refreshFields e t =
+    sentFields K.Refresh (e .settings .slave) (sessionOf e) (e .settings .connection) (timeOf e t) 0
 
 -- a master's S-Disconnect
 abbrev pub disconnectFields : Endpoint → ℕ → Fields
-disconnectFields e t = sentFields K.Disconnect false (e .settings .connection) (timeOf e t) 0
+disconnectFields e t = sentFields K.Disconnect false (sessionOf e) (e .settings .connection) (timeOf e t) 0
 
 -- the reply to a request: its Cmd and timestamp (of 48 bits)
 abbrev pub replyFields : Endpoint → Fields → Bool → Bool → Fields
-replyFields e f busy error = ackFields (f .command) busy error (e .settings .connection) (f .timestamp % span)
+replyFields e f busy error =
+    ackFields (f .command) busy error (sessionOf e) (e .settings .connection) (f .timestamp % span)
 
 -- a station's result is set, and of a request's length
 abbrev pub hasResult : Endpoint → ℕ → Bool

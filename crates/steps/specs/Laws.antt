@@ -6,8 +6,9 @@ use mathlib.Core.Logic.{_⊎_}
 use Prim.Native.Nat.{ℕ, _+_, _/_, _≤_, _<_}
 use lib.ListN.{length}
 use Rattle.frame.specs.declared.Command.the-variants as K
+use Rattle.frame.specs.declared.Subconnection.{Subconnection}
 use Rattle.frame.specs.declared.Fields.{Fields}
-use Rattle.frame.specs.Control.{is}
+use Rattle.frame.specs.Control.{is, isSame}
 use Rattle.frame.specs.RoundTrip.{Readable}
 use Rattle.errors.specs.Reading.{isRecord, moreFollows}
 use Rattle.endpoint.specs.declared.Settings.{Settings}
@@ -25,13 +26,14 @@ use Rattle.transitions.specs.ByCall.{startedOf, restartedOf, requestedOf, refre
 use Rattle.transitions.specs.ByCall.{readQueuedOf, writeQueuedOf}
 use Rattle.transitions.specs.ByFrame.{refreshedOf, answeredOf, reportedOf, endedBy, heardOf}
 use Rattle.steps.specs.Frames.{Written, nothing, frame, setupData, dueData, sendWidth, showWidth, requestFields}
-use Rattle.steps.specs.Frames.{refreshFields, replyFields, isBusy, hasRecord, replyData, isRequest}
+use Rattle.steps.specs.Frames.{sessionOf, refreshFields, replyFields, isBusy, hasRecord, replyData, isRequest}
 use Rattle.steps.specs.Frames as W
 use Rattle.steps.specs.Calls.{outcome, dropped, disconnectOf, startOf, restartOf, setNotReadyOf, sendOf, stopOf}
 use Rattle.steps.specs.Frames.{paddedOf}
 use Rattle.steps.specs.Calls.{setResultOf, clearResultOf, commandData, invokeOf, keptRecord, setRecordOf}
 use Rattle.steps.specs.Calls.{clearRecordOf, readErrorOf, writeErrorOf}
-use Rattle.steps.specs.Deliveries.{isWidth, isResult, repliesRecord, takeRefresh, takeRequest, takeReply}
+use Rattle.steps.specs.Deliveries.{isWidth, isResult, lacksNumber, repliesRecord, takeRefresh, takeRequest}
+use Rattle.steps.specs.Deliveries.{takeReply}
 use Rattle.steps.specs.Steps.{begins, Call, act, send, deliver, show, stepOf}
 
 -- a frame that is written reads back, and carries the endpoint's CID and its role's Application bit
@@ -66,9 +68,9 @@ pub record StartDone (e : Endpoint) (t : ℕ) : Type 0 where
   pub closed : isState (e .state) Close ≡ true
   pub comes : startOf e t ≡ outcome Done (startedOf e t) nothing
 
-pub record RestartDone (e : Endpoint) : Type 0 where
+pub record RestartDone (e : Endpoint) (number : ℕ) : Type 0 where
   pub terminated : isTerminated (e .state) ≡ true
-  pub comes : restartOf e ≡ outcome Done (restartedOf e) nothing
+  pub comes : restartOf e number ≡ outcome Done (restartedOf e number) nothing
 
 pub record NotReadySet (e : Endpoint) (b : Bool) : Type 0 where
   pub slave : e .settings .slave ≡ true
@@ -125,16 +127,18 @@ pub record StopDone (e : Endpoint) (t : ℕ) : Type 0 where
   pub above : e .settings .slave ≡ false → isAbove (e .timestamps .sent) (timeOf e t) ≡ true
   pub comes : stopOf e t ≡ outcome Done (stoppedOf e t) (disconnectOf e t)
 
-pub record RefreshTaken (e : Endpoint) (t stamp : ℕ) (body : List ℕ) : Type 0 where
+pub record RefreshTaken (e : Endpoint) (t : ℕ) (n : Subconnection) (stamp : ℕ) (body : List ℕ) : Type 0 where
   pub refresh : isState (e .state) Refresh ≡ true
+  pub session : isSame (sessionOf e) n ≡ true
   pub width : length body ≡ showWidth (e .settings)
   pub above : isAbove (e .timestamps .accepted) stamp ≡ true
   pub near : isTooFarAhead (ageOf e t stamp) (allowanceOf (e .settings)) ≡ false
   pub young : isTooLate (ageOf e t stamp) (e .settings .age) ≡ false
-  pub comes : takeRefresh e t stamp body ≡ outcome Done (refreshedOf e t stamp (paddedOf body)) nothing
+  pub comes : takeRefresh e t n stamp body ≡ outcome Done (refreshedOf e t stamp (paddedOf body)) nothing
 
 pub record RequestTaken (e : Endpoint) (t : ℕ) (f : Fields) (body : List ℕ) : Type 0 where
   pub turn : isNo (nextOf (f .command) (e .state)) ≡ false
+  pub session : is (f .command) K.Connect ≡ false → isSame (sessionOf e) (f .subconnection) ≡ true
   pub above : isAbove (e .timestamps .accepted) (f .timestamp) ≡ true
   pub width : isWidth (e .settings) (f .command) (length body) ≡ true
   pub has : is (f .command) K.ReadErrorInfo ≡ true → hasRecord e ≡ true
@@ -159,6 +163,7 @@ pub record ReplyTaken (e : Endpoint) (t : ℕ) (f : Fields) (body : List ℕ) : 
   pub setup : isSetup (e .state) ≡ true
   pub pending : e .setup .pending ≡ Asked (f .timestamp)
   pub command : is (f .command) (requestDue e) ≡ true
+  pub session : lacksNumber e f ≡ false
   pub sound : f .error ≡ false
   pub reads : repliesRecord (f .command) ≡ true → isRecord body ≡ true
   pub contents : isResult f ≡ false → body ≡ dueData e
@@ -180,7 +185,7 @@ pub record StepLaws : Type 0 where
       → stepOf e t call .endpoint .setup .requests ≤ requestLimit
   -- what done tells
   pub start-done : (e : Endpoint) (t : ℕ) → startOf e t .answer ≡ Done → StartDone e t
-  pub restart-done : (e : Endpoint) → restartOf e .answer ≡ Done → RestartDone e
+  pub restart-done : (e : Endpoint) (number : ℕ) → restartOf e number .answer ≡ Done → RestartDone e number
   pub not-ready-set : (e : Endpoint) (b : Bool) → setNotReadyOf e b .answer ≡ Done → NotReadySet e b
   pub result-set : (e : Endpoint) (body : List ℕ) → setResultOf e body .answer ≡ Done → ResultSet e body
   pub result-cleared : (e : Endpoint) → clearResultOf e .answer ≡ Done → ResultCleared e
@@ -193,8 +198,8 @@ pub record StepLaws : Type 0 where
   pub send-done : (e : Endpoint) (t : ℕ) (value : List ℕ) → sendOf e t value .answer ≡ Done
       → RefreshSent e t value ⊎ RequestSent e t value
   pub stop-done : (e : Endpoint) (t : ℕ) → stopOf e t .answer ≡ Done → StopDone e t
-  pub refresh-done : (e : Endpoint) (t stamp : ℕ) (body : List ℕ) → takeRefresh e t stamp body .answer ≡ Done
-      → RefreshTaken e t stamp body
+  pub refresh-done : (e : Endpoint) (t : ℕ) (n : Subconnection) (stamp : ℕ) (body : List ℕ)
+      → takeRefresh e t n stamp body .answer ≡ Done → RefreshTaken e t n stamp body
   pub request-done : (e : Endpoint) (t : ℕ) (f : Fields) (body : List ℕ) → is (f .command) K.Disconnect ≡ false
       → is (f .command) K.WriteErrorInfo ≡ false → takeRequest e t f body .answer ≡ Done → RequestTaken e t f body
   pub report-done : (e : Endpoint) (t : ℕ) (f : Fields) (body : List ℕ) → is (f .command) K.WriteErrorInfo ≡ true

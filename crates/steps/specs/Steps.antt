@@ -16,7 +16,8 @@ use Rattle.steps.specs.Deliveries.{deliverOf}
 pub data Act : Type 0 where
   start : Act
   stop : Act
-  restart : Act
+  -- with a session number
+  restart : ℕ → Act
   setNotReady : Bool → Act
   setResult : List ℕ → Act
   clearResult : Act
@@ -30,7 +31,7 @@ pub data Act : Type 0 where
 abbrev pub begins : Act → Bool
 begins start = true
 begins stop = false
-begins restart = false
+begins (restart number) = false
 begins (setNotReady b) = false
 begins (setResult body) = false
 begins clearResult = false
@@ -49,7 +50,7 @@ pub data Call : Type 0 where
 abbrev pub actOf : Endpoint → ℕ → Act → Outcome
 actOf e t start = startOf e t
 actOf e t stop = stopOf e t
-actOf e t restart = restartOf e
+actOf e t (restart number) = restartOf e number
 actOf e t (setNotReady b) = setNotReadyOf e b
 actOf e t (setResult body) = setResultOf e body
 actOf e t clearResult = clearResultOf e

@@ -86,7 +86,7 @@ looks e show = false
 abbrev pub handsWords : Act → Bool
 handsWords start = false
 handsWords stop = false
-handsWords restart = false
+handsWords (restart number) = false
 handsWords (setNotReady b) = false
 handsWords (setResult body) = true
 handsWords clearResult = false
@@ -99,7 +99,7 @@ handsWords (writeError body) = false
 abbrev pub handsRecord : Act → Bool
 handsRecord start = false
 handsRecord stop = false
-handsRecord restart = false
+handsRecord (restart number) = false
 handsRecord (setNotReady b) = false
 handsRecord (setResult body) = false
 handsRecord clearResult = false
@@ -112,7 +112,7 @@ handsRecord (writeError body) = true
 abbrev pub handedIn : Act → List ℕ
 handedIn start = []
 handedIn stop = []
-handedIn restart = []
+handedIn (restart number) = []
 handedIn (setNotReady b) = []
 handedIn (setResult body) = body
 handedIn clearResult = []

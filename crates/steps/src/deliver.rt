@@ -8,9 +8,9 @@ ghost use lib.ListN.{length};
 ghost use Rattle.frame.specs.declared.Command.the-variants as K;
 ghost use Rattle.frame.specs.Control.{is};
 ghost use Rattle.endpoint.specs.Answers.{firstOf};
-ghost use Rattle.steps.specs.Deliveries.{refreshFaultsAt, takeRefresh, isTurn, lacksRecord, isWidth, isUsers};
-ghost use Rattle.steps.specs.Deliveries.{isExpected, requestFaults, takeRequest, isResult, repliesRecord};
-ghost use Rattle.steps.specs.Deliveries.{replyFaults, takeReply, deliverOf};
+ghost use Rattle.steps.specs.Deliveries.{isForeign, refreshFaultsAt, takeRefresh, isTurn, lacksSession, lacksRecord};
+ghost use Rattle.steps.specs.Deliveries.{isWidth, isUsers, isExpected, requestFaults, takeRequest, isResult};
+ghost use Rattle.steps.specs.Deliveries.{lacksNumber, repliesRecord, replyFaults, takeReply, deliverOf};
 ghost use Rattle.steps.specs.Says.{plainStep, withRoom, StepSays};
 ghost use Rattle.steps.specs.Values.{withHanded};
 use super::Stepped;
@@ -19,6 +19,7 @@ use super::frames::has_record;
 use super::frames::is_busy;
 use super::frames::is_data;
 use super::frames::reply_fields;
+use super::frames::session_of;
 use super::frames::setup_data;
 use super::frames::show_width;
 use super::frames::write_reply;
@@ -54,7 +55,10 @@ use errors::read::more_follows;
 use frame::Command;
 use frame::Fields;
 use frame::LONGEST_FRAME;
+use frame::Subconnection;
 use frame::control::is;
+use frame::control::is_absent;
+use frame::control::is_same;
 use frame::write::head_of;
 use frame::write::is_body_length;
 use transitions::by_frame::ended_by;
@@ -62,28 +66,36 @@ use transitions::by_frame::heard;
 use transitions::by_frame::refreshed;
 use transitions::by_frame::taken;
 
+// Whether a frame carries another session number than the endpoint's own, or none.
+fn is_foreign(e: Core, session: Subconnection) -> bool
+    ensures { λ r. ⌜ r ≡ isForeign (bare e) session ⌝ }
+{
+    !is_same(session_of(e), session)
+}
+
 // Of an S-Refresh whose timestamp has this age.
-fn refresh_answer(e: Core, age: u64, stamp: u64, width: usize) -> Answer
-    ensures { λ r. ⌜ r ≡ firstOf (refreshFaultsAt (bare e) age stamp width) ⌝ }
+fn refresh_answer(e: Core, age: u64, session: Subconnection, stamp: u64, width: usize) -> Answer
+    ensures { λ r. ⌜ r ≡ firstOf (refreshFaultsAt (bare e) age session stamp width) ⌝ }
 {
     let state = e.state;
     let settings = e.settings;
     let timestamps = e.timestamps;
     let last = timestamps.accepted;
     let refresh = is_state(state, State::Refresh);
+    let foreign = is_foreign(e, session);
     let due = show_width(settings);
     let above = is_above(last, stamp);
     let ahead = is_too_far_ahead(age, allowance(settings));
     let late = is_too_late(age, settings.age);
-    first_of(value_faults(!refresh, width != due, !above, ahead, late))
+    first_of(value_faults(!refresh, foreign, width != due, !above, ahead, late))
 }
 
 // An S-Refresh of the other end.
-fn take_refresh(e: Core, clock: u64, stamp: u64, body: &[u8]) -> Stepped
-    ensures { λ r. ⌜ r ≡ plainStep (takeRefresh (bare e) clock stamp (now (body .entry))) ⌝ }
+fn take_refresh(e: Core, clock: u64, session: Subconnection, stamp: u64, body: &[u8]) -> Stepped
+    ensures { λ r. ⌜ r ≡ plainStep (takeRefresh (bare e) clock session stamp (now (body .entry))) ⌝ }
 {
     let age = age_of(e, clock, stamp);
-    let answer = refresh_answer(e, age, stamp, body.len());
+    let answer = refresh_answer(e, age, session, stamp, body.len());
     if is_done(answer) {
         return stepped(
             Answer::Done,
@@ -100,6 +112,15 @@ fn is_turn(e: Core, k: Command) -> bool
 {
     let state = e.state;
     !is_no(next_state(k, state)) & (!is(k, Command::ReadErrorInfo) | has_record(e))
+}
+
+// Whether a request lacks the session number; of S-Connect none is asked.
+fn lacks_session(e: Core, f: Fields) -> bool
+    ensures { λ r. ⌜ r ≡ lacksSession (bare e) f ⌝ }
+{
+    let k = f.command;
+    let session = f.subconnection;
+    !is(k, Command::Connect) & is_foreign(e, session)
 }
 
 // Whether the data of S-WriteErrorInfo is no error record.
@@ -142,11 +163,12 @@ fn request_answer(e: Core, f: Fields, body: &[u8]) -> Answer
     let last = timestamps.accepted;
     let k = f.command;
     let turn = is_turn(e, k);
+    let foreign = lacks_session(e, f);
     let lacks = lacks_record(k, body);
     let above = is_above(last, f.timestamp);
     let fits = is_width(settings, k, body.len());
     let expected = is_expected(settings, k, body);
-    first_of(setup_faults(!turn, lacks, !fits, !above, !expected))
+    first_of(setup_faults(!turn, foreign, lacks, !fits, !above, !expected))
 }
 
 // What a request that is answered leaves: done, or ended. More: it has an error record, and more follow.
@@ -197,6 +219,18 @@ fn is_result(f: Fields) -> bool
     (is(k, Command::InvokeFunc) & !f.busy) | is(k, Command::ReadErrorInfo)
 }
 
+// Whether a reply lacks the session number; S-Connect's brings it, whichever it is.
+fn lacks_number(e: Core, f: Fields) -> bool
+    ensures { λ r. ⌜ r ≡ lacksNumber (bare e) f ⌝ }
+{
+    let k = f.command;
+    let session = f.subconnection;
+    if is(k, Command::Connect) {
+        return is_absent(session);
+    }
+    is_foreign(e, session)
+}
+
 // Whether a reply to a command has to be an error record.
 fn replies_record(k: Command) -> bool
     ensures { λ r. ⌜ r ≡ repliesRecord k ⌝ }
@@ -218,6 +252,7 @@ fn reply_answer(e: Core, words: &[u8], errorinfo: &[u8], f: Fields, body: &[u8])
     let answers = answers_to(pending, f.timestamp);
     let result = is_result(f);
     let read = is(k, Command::ReadErrorInfo);
+    let foreign = lacks_number(e, f);
     let record = replies_record(k);
     let lacks = record & !is_record(body);
     let due = due_data(e, words, errorinfo);
@@ -225,6 +260,7 @@ fn reply_answer(e: Core, words: &[u8], errorinfo: &[u8], f: Fields, body: &[u8])
     let equal = is_data(body, due);
     first_of(setup_faults(
         !(in_setup & (f.ack & (asked & matches))),
+        foreign,
         lacks,
         !(read | (body.len() == n)),
         !answers,
@@ -283,7 +319,8 @@ pub fn deliver(
     }
     let k = f.command;
     if is(k, Command::Refresh) {
-        return take_refresh(e, clock, f.timestamp, body);
+        let session = f.subconnection;
+        return take_refresh(e, clock, session, f.timestamp, body);
     }
     // A copy for setup, so that on a value's way the core need not stand in memory.
     let setup = e;

@@ -9,7 +9,8 @@ ghost use Prim.Native.Nat.{_≤_};
 ghost use lib.ListN.{length, replicate};
 ghost use Rattle.words.specs.Words.{wordBytes};
 ghost use Rattle.steps.specs.Frames.{setupData, isCount, widthOf, handedOver, isRecordCount, recordWidth, recordIn};
-ghost use Rattle.steps.specs.Frames.{dueData, sendWidth, showWidth, sentFields, baselineOf, replyFields};
+ghost use Rattle.steps.specs.Frames.{dueData, sendWidth, showWidth, sessionOf, sessionWith, sentFields, baselineOf};
+ghost use Rattle.steps.specs.Frames.{replyFields};
 ghost use Rattle.steps.specs.Frames.{isPerformed, isBusy, hasRecord, replyData};
 ghost use Rattle.steps.specs.Says.{bytesIn, DataSays};
 ghost use Rattle.steps.specs.Values.{withHanded};
@@ -27,6 +28,7 @@ use frame::Head;
 use frame::Subconnection;
 use frame::TIMESTAMP_MODULUS;
 use frame::control::is;
+use frame::control::narrowed;
 use frame::write::write_head;
 use words::put_word;
 use words::same;
@@ -113,15 +115,34 @@ pub(crate) fn show_width(s: Settings) -> usize
     width(s.slavewords)
 }
 
+// The session number that the endpoint's frames carry, if it has one.
+pub(crate) fn session_of(e: Core) -> Subconnection
+    ensures { λ r. ⌜ r ≡ sessionOf (bare e) ⌝ }
+{
+    let session = e.session;
+    narrowed(session)
+}
+
+// An S-Connect request carries none.
+fn session_with(e: Core, k: Command) -> Subconnection
+    ensures { λ r. ⌜ r ≡ sessionWith (bare e) k ⌝ }
+{
+    if is(k, Command::Connect) {
+        return Subconnection::Absent;
+    }
+    session_of(e)
+}
+
 // A frame that is no reply; application tells the direction.
 pub(crate) fn sent_fields(
     command: Command,
     application: bool,
+    session: Subconnection,
     connection: u32,
     timestamp: u64,
     baseline: u16,
 ) -> Fields
-    ensures { λ r. ⌜ r ≡ sentFields command application connection timestamp baseline ⌝ }
+    ensures { λ r. ⌜ r ≡ sentFields command application session connection timestamp baseline ⌝ }
 {
     Fields {
         command: command,
@@ -130,7 +151,7 @@ pub(crate) fn sent_fields(
         error: false,
         sequence: false,
         application: application,
-        subconnection: Subconnection::Absent,
+        subconnection: session,
         connection: connection,
         timestamp: timestamp,
         baseline: baseline,
@@ -149,13 +170,14 @@ fn baseline_of(k: Command, clock: u64, measured: u64) -> u16
 
 // The request due, with this timestamp.
 pub(crate) fn request_fields(e: Core, clock: u64, stamp: u64) -> Fields
-    ensures { λ r. ⌜ r ≡ sentFields (requestDue (bare e)) false (e .settings .connection) stamp
-        (baselineOf (requestDue (bare e)) clock (e .setup .measured)) ⌝ }
+    ensures { λ r. ⌜ r ≡ sentFields (requestDue (bare e)) false (sessionWith (bare e) (requestDue (bare e)))
+        (e .settings .connection) stamp (baselineOf (requestDue (bare e)) clock (e .setup .measured)) ⌝ }
 {
     let k = request_due(e);
     sent_fields(
         k,
         false,
+        session_with(e, k),
         e.settings.connection,
         stamp,
         baseline_of(k, clock, e.setup.measured),
@@ -173,7 +195,7 @@ pub(crate) fn reply_fields(e: Core, f: Fields, busy: bool, error: bool) -> Field
         error: error,
         sequence: false,
         application: true,
-        subconnection: Subconnection::Absent,
+        subconnection: session_of(e),
         connection: e.settings.connection,
         timestamp: f.timestamp % TIMESTAMP_MODULUS,
         baseline: 0,

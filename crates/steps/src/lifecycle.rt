@@ -7,6 +7,7 @@ ghost use Rattle.steps.specs.Calls.{refused, startOf, restartOf, stopFau
 ghost use Rattle.steps.specs.Says.{steppedOf, plainStep, withRoom, StepSays};
 use super::Stepped;
 use super::frames::sent_fields;
+use super::frames::session_of;
 use super::frames::setup_data;
 use super::frames::write_data;
 use endpoint::Answer;
@@ -60,13 +61,13 @@ pub fn start(e: Core, clock: u64) -> Stepped
     stepped(Answer::Dropped(Reason::Turn), e, 0)
 }
 
-// From Terminate to Close; timestamps stay remembered.
-pub fn restart(e: Core) -> Stepped
-    ensures { λ r. ⌜ r ≡ plainStep (restartOf (bare e)) ⌝ }
+// From Terminate to Close, with a session number at a slave; timestamps stay remembered.
+pub fn restart(e: Core, number: u16) -> Stepped
+    ensures { λ r. ⌜ r ≡ plainStep (restartOf (bare e) number) ⌝ }
 {
     let state = e.state;
     if is_terminated(state) {
-        return stepped(Answer::Done, restarted(e), 0);
+        return stepped(Answer::Done, restarted(e, number), 0);
     }
     stepped(Answer::Dropped(Reason::Turn), e, 0)
 }
@@ -100,7 +101,15 @@ pub fn stop(e: Core, clock: u64, out: &mut [u8]) -> Stepped
     }
     let settings = e.settings;
     let data = setup_data(settings, Command::Disconnect);
-    let fields = sent_fields(Command::Disconnect, false, e.settings.connection, stamp, 0);
+    let session = session_of(e);
+    let fields = sent_fields(
+        Command::Disconnect,
+        false,
+        session,
+        e.settings.connection,
+        stamp,
+        0,
+    );
     let count = write_data(head_of(fields), data, out);
     stepped(Answer::Done, stopped(e, stamp), count)
 }

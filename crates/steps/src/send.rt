@@ -11,6 +11,7 @@ use super::frames::due_data;
 use super::frames::request_fields;
 use super::frames::send_width;
 use super::frames::sent_fields;
+use super::frames::session_of;
 use super::frames::write_data;
 use super::lifecycle::refused;
 use super::lifecycle::stepped;
@@ -80,6 +81,7 @@ pub fn send(
         let fields = sent_fields(
             Command::Refresh,
             e.settings.slave,
+            session_of(e),
             e.settings.connection,
             stamp,
             0,

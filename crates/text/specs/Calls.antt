@@ -32,6 +32,7 @@ names =
     ∷ (bytesOf "check", Check)
     ∷ (bytesOf "room", Set P.Room)
     ∷ (bytesOf "records", Set P.Records)
+    ∷ (bytesOf "session", Set P.Session)
     ∷ (bytesOf "send", Data K.Value)
     ∷ (bytesOf "invoke", Invoke)
     ∷ (bytesOf "result", Data K.Result)
@@ -94,6 +95,7 @@ deliverOf Invalid is start = L.Wrong
 abbrev pub mostOf : Parameter → ℕ
 mostOf P.Room = 256
 mostOf P.Records = 70
+mostOf P.Session = 65535
 
 unfoldable pub setOf : Parameter → Number → Line
 setOf p (Value n) = cond (leb n (mostOf p)) (L.Set p n) L.Wrong

@@ -49,6 +49,8 @@ pub enum Parameter {
     Room,
     // How many records they are lent.
     Records,
+    // The session number that loads and restarts are handed.
+    Session,
 }
 
 // What a line of a call list is. The bytes of a call stand as digits from `start` to the end of the line.

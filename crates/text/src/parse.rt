@@ -43,7 +43,7 @@ pub(crate) enum Pair {
 // A word that begins a call, filled up with spaces, and what it names.
 struct Verb([u8; 10], Name);
 
-type Verbs = [Verb; 19];
+type Verbs = [Verb; 20];
 
 const VERBS: Verbs = [
     Verb(*b"load      ", Name::Load),
@@ -51,6 +51,7 @@ const VERBS: Verbs = [
     Verb(*b"check     ", Name::Check),
     Verb(*b"room      ", Name::Set(Parameter::Room)),
     Verb(*b"records   ", Name::Set(Parameter::Records)),
+    Verb(*b"session   ", Name::Set(Parameter::Session)),
     Verb(*b"send      ", Name::Data(Kind::Value)),
     Verb(*b"invoke    ", Name::Invoke),
     Verb(*b"result    ", Name::Data(Kind::Result)),
@@ -182,6 +183,7 @@ fn most(p: Parameter) -> u64
     match p {
         Parameter::Room => 256,
         Parameter::Records => 70,
+        Parameter::Session => 65535,
     }
 }
 

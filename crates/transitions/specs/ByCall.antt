@@ -3,6 +3,8 @@ use mathlib.Core.Bool.{Bool, true, false, _||_, cond}
 use Prim.Native.Nat.{ℕ, _+_, _%_}
 use Rattle.frame.specs.declared.Command.{Command}
 use Rattle.frame.specs.declared.Command.the-variants as K
+use Rattle.frame.specs.declared.Subconnection.{Subconnection}
+use Rattle.frame.specs.declared.Subconnection.the-variants.{Absent, Number}
 use Rattle.frame.specs.Control.{is}
 use Rattle.endpoint.specs.declared.Settings.{Settings}
 use Rattle.endpoint.specs.declared.State.the-variants.{Close, Starting}
@@ -14,12 +16,16 @@ use Rattle.endpoint.specs.Endpoint.{Endpoint, Words, noBytes, noRecord, wordsOf
 use Rattle.endpoint.specs.Due.{requestDue}
 use Rattle.endpoint.specs.Time.{noValue, endedOf, timeOf}
 use Rattle.endpoint.specs.Updates.{endpointOf, inState, timedFrom, withTimestamps, withSent, withPending, withRequests}
-use Rattle.endpoint.specs.Updates.{withQueue, withInvoked, withWords, withErrorInfo, holding}
+use Rattle.endpoint.specs.Updates.{withSession, withQueue, withInvoked, withWords, withErrorInfo, holding}
 
--- a connection as loaded
-abbrev pub freshOf : Settings → Endpoint
-freshOf s =
-    endpointOf s Close 0 (record { sent = Never; accepted = Never })
+-- the session number after a loading or a restart: a slave's user gives it; a master has none until the S-Connect reply
+abbrev pub sessionFrom : Bool → ℕ → Subconnection
+sessionFrom slave number = cond slave (Number number) Absent
+
+-- a connection as loaded, with this session number
+abbrev pub freshOf : Settings → ℕ → Endpoint
+freshOf s number =
+    endpointOf s Close (sessionFrom (s .slave) number) 0 (record { sent = Never; accepted = Never })
     (record { pending = Nothing; measured = 0; offset = 0; requests = 0; queue = Q.Empty; invoked = false })
     (record { notready = false }) (wordsOf 0 noBytes) (wordsOf 0 noRecord) noValue
 
@@ -29,9 +35,9 @@ startedOf e t =
     inState Starting (timedFrom t (withInvoked false (withQueue Q.Empty (withRequests 0 (withPending Nothing
     (holding noValue e))))))
 
--- restart; what is remembered of timestamps stays, and the count of requests
-abbrev pub restartedOf : Endpoint → Endpoint
-restartedOf e = inState Close (holding noValue e)
+-- restart, with this session number; what is remembered of timestamps stays, and the count of requests
+abbrev pub restartedOf : Endpoint → ℕ → Endpoint
+restartedOf e number = inState Close (withSession (sessionFrom (e .settings .slave) number) (holding noValue e))
 
 -- how many requests have been written once this command is, in 8 bits: S-Disconnect is not counted
 abbrev pub countedOf : Endpoint → Command → ℕ

@@ -4,6 +4,7 @@ use mathlib.Core.List.{List}
 use Prim.Native.Nat.{ℕ}
 use Rattle.frame.specs.declared.Command.{Command}
 use Rattle.frame.specs.declared.Command.the-variants as K
+use Rattle.frame.specs.declared.Subconnection.{Subconnection}
 use Rattle.frame.specs.declared.Fields.{Fields}
 use Rattle.frame.specs.Control.{is}
 use Rattle.endpoint.specs.declared.State.the-variants.{Terminate, TerminateMore}
@@ -14,7 +15,7 @@ use Rattle.endpoint.specs.Table.{nextOf, stateTo}
 use Rattle.endpoint.specs.Due.{isCommandDue, requestDue, isHeldBack}
 use Rattle.endpoint.specs.Time.{ageOf, countedAge, offsetFrom, noValue, endedOf}
 use Rattle.endpoint.specs.Updates.{inState, timedFrom, withAccepted, withPending, withMeasured, withOffset, withQueue}
-use Rattle.endpoint.specs.Updates.{holding}
+use Rattle.endpoint.specs.Updates.{withSession, holding}
 
 -- ---- S-Refresh, at either end
 -- its value, of this age, is held
@@ -66,12 +67,16 @@ takenOf e t f more =
     (cond (is (f .command) K.WriteErrorInfo) (reportedOf e (f .timestamp) more) (answeredOf e t f))
 
 -- ---- a reply at a master: to its pending request
+-- the session number comes with the reply to S-Connect
+abbrev pub sessionBy : Endpoint → Fields → Subconnection
+sessionBy e f = cond (is (requestDue e) K.Connect) (f .subconnection) (e .session)
+
 -- the next state
-abbrev pub confirmedOf : Endpoint → ℕ → Endpoint
-confirmedOf e t =
+abbrev pub confirmedOf : Endpoint → ℕ → Fields → Endpoint
+confirmedOf e t f =
     inState (stateTo (nextOf (requestDue e) (e .state)) (e .state))
-    (timedFrom t (withPending Nothing
-    (withMeasured (measuredBy (requestDue e) t (e .setup .measured)) (holding noValue e))))
+    (timedFrom t (withPending Nothing (withSession (sessionBy e f)
+    (withMeasured (measuredBy (requestDue e) t (e .setup .measured)) (holding noValue e)))))
 
 -- Busy: the request is due again, with a new timestamp; the timer starts afresh, the state and m2 stay (001: MT30 to
 -- MT32)
@@ -84,4 +89,4 @@ performedOf e t = timedFrom t (withPending Nothing (withQueue Empty e))
 
 -- what a reply that is done leaves
 abbrev pub heardOf : Endpoint → ℕ → Fields → Endpoint
-heardOf e t f = cond (f .busy) (dueAgainOf e t) (cond (isCommandDue e) (performedOf e t) (confirmedOf e t))
+heardOf e t f = cond (f .busy) (dueAgainOf e t) (cond (isCommandDue e) (performedOf e t) (confirmedOf e t f))

@@ -2,7 +2,7 @@
 ghost use mathlib.Core.Path.{_≡_};
 ghost use Rattle.endpoint.specs.Endpoint.{noBytes, noRecord, wordsOf, bare, coreOf};
 ghost use Rattle.endpoint.specs.Updates.{withWords, withErrorInfo, withNotReady};
-ghost use Rattle.transitions.specs.ByCall.{freshOf, startedOf, restartedOf, countedOf, queueAfter, invokedAfter};
+ghost use Rattle.transitions.specs.ByCall.{sessionFrom, freshOf, startedOf, restartedOf, countedOf, queueAfter, invokedAfter};
 ghost use Rattle.transitions.specs.ByCall.{requestedAt, stoppedAt, invokedOf, readQueuedOf, writeQueuedOf};
 use endpoint::Core;
 use endpoint::Pending;
@@ -19,16 +19,29 @@ use endpoint::updates::in_state;
 use endpoint::updates::with_pending;
 use endpoint::updates::with_queue;
 use endpoint::updates::with_sent;
+use endpoint::updates::with_session;
 use frame::Command;
+use frame::Subconnection;
 use frame::control::is;
 
-// A connection as loaded: in Close, with no timestamp remembered.
-pub fn fresh(s: Settings) -> Core
-    ensures { λ r. ⌜ r ≡ coreOf (freshOf s) ⌝ }
+// The session number after a loading or a restart: a slave's user gives it, a master has none.
+fn session_from(slave: bool, number: u16) -> Subconnection
+    ensures { λ r. ⌜ r ≡ sessionFrom slave number ⌝ }
+{
+    if slave {
+        return Subconnection::Number(number);
+    }
+    Subconnection::Absent
+}
+
+// A connection as loaded with a session number: in Close, with no timestamp remembered.
+pub fn fresh(s: Settings, number: u16) -> Core
+    ensures { λ r. ⌜ r ≡ coreOf (freshOf s number) ⌝ }
 {
     Core {
         settings: s,
         state: State::Close,
+        session: session_from(s.slave, number),
         since: 0,
         timestamps: Timestamps {
             sent: Timestamp::Never,
@@ -63,10 +76,11 @@ pub fn started(e: Core, clock: u64) -> Core
     next
 }
 
-pub fn restarted(e: Core) -> Core
-    ensures { λ r. ⌜ r ≡ coreOf (restartedOf (bare e)) ⌝ }
+pub fn restarted(e: Core, number: u16) -> Core
+    ensures { λ r. ⌜ r ≡ coreOf (restartedOf (bare e) number) ⌝ }
 {
-    let mut next = in_state(State::Close, e);
+    let session = session_from(e.settings.slave, number);
+    let mut next = in_state(State::Close, with_session(session, e));
     next.taken = false;
     next.valueage = 0;
     next

@@ -3,7 +3,7 @@ ghost use mathlib.Core.Path.{_≡_};
 ghost use Rattle.endpoint.specs.Endpoint.{noBytes, bare, coreOf};
 ghost use Rattle.transitions.specs.ByFrame.{refreshedAt, endedBy, measuredBy, offsetBy, advancedOf};
 ghost use Rattle.transitions.specs.ByFrame.{deferredOf, answeredOf, reportedOf, takenOf, confirmedOf, dueAgainOf};
-ghost use Rattle.transitions.specs.ByFrame.{performedOf, heardOf};
+ghost use Rattle.transitions.specs.ByFrame.{performedOf, sessionBy, heardOf};
 use endpoint::Core;
 use endpoint::Pending;
 use endpoint::Queue;
@@ -19,8 +19,10 @@ use endpoint::updates::in_state;
 use endpoint::updates::with_accepted;
 use endpoint::updates::with_pending;
 use endpoint::updates::with_queue;
+use endpoint::updates::with_session;
 use frame::Command;
 use frame::Fields;
+use frame::Subconnection;
 use frame::control::is;
 
 // A value of this age was accepted; its bytes are kept by the caller.
@@ -122,14 +124,27 @@ pub fn taken(e: Core, clock: u64, f: Fields, more: bool) -> Core
     answered(e, clock, f)
 }
 
-fn confirmed(e: Core, clock: u64) -> Core
-    ensures { λ r. ⌜ r ≡ coreOf (confirmedOf (bare e) clock) ⌝ }
+// The session number comes with the reply to S-Connect.
+fn session_by(e: Core, f: Fields) -> Subconnection
+    ensures { λ r. ⌜ r ≡ sessionBy (bare e) f ⌝ }
+{
+    if is(request_due(e), Command::Connect) {
+        let session = f.subconnection;
+        return session;
+    }
+    let session = e.session;
+    session
+}
+
+fn confirmed(e: Core, clock: u64, f: Fields) -> Core
+    ensures { λ r. ⌜ r ≡ coreOf (confirmedOf (bare e) clock f) ⌝ }
 {
     let state = e.state;
     let k = request_due(e);
     let m2 = measured_by(k, clock, e.setup.measured);
     let to = state_to(next_state(k, state), state);
-    let mut next = in_state(to, with_pending(Pending::Nothing, e));
+    let session = session_by(e, f);
+    let mut next = in_state(to, with_session(session, with_pending(Pending::Nothing, e)));
     next.since = clock;
     next.setup.measured = m2;
     next.taken = false;
@@ -166,5 +181,5 @@ pub fn heard(e: Core, clock: u64, f: Fields) -> Core
     if is_command_due(e) {
         return performed(e, clock);
     }
-    confirmed(e, clock)
+    confirmed(e, clock, f)
 }

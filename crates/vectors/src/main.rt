@@ -141,7 +141,7 @@ fn crc_vectors() {
     crc_line(b"crc of an iSCSI SCSI Read (10) command PDU: ", &read10);
 }
 
-// An S-Connect request of master 1/2 to slave 1/3, and an S-Refresh of that slave.
+// An S-Connect request of master 1/2 to slave 1/3, and an S-Refresh of that slave in session 7.
 fn connect() -> Fields {
     Fields {
         command: Command::Connect,
@@ -165,7 +165,7 @@ fn refresh() -> Fields {
         error: false,
         sequence: false,
         application: true,
-        subconnection: Subconnection::Absent,
+        subconnection: Subconnection::Number(7),
         connection: 0x01020103,
         timestamp: 65540,
         baseline: 0,
@@ -215,10 +215,14 @@ fn main() {
     check_line(b"check of 60 bytes: ", &out, 60);
     let value = [0xA5u8; 100];
     let n = frame::write::write_frame(refresh(), &value, &mut out);
-    written_line(b"S-Refresh of a slave: ", &out, n);
+    written_line(b"S-Refresh of a slave in session 7: ", &out, n);
     check_line(b"check of 248 bytes: ", &out, 248);
     check_line(b"check of 256 bytes: ", &out, 256);
     check_line(b"check of 0 bytes: ", &out, 0);
     readying::readying(&mut out);
-    written_line(b"S-RefreshGO at 1,040, T code 1,040 and OBL 10: ", &out, 56);
+    written_line(
+        b"S-RefreshGO at 1,040, T code 1,040, OBL 10 and Sub CID 7: ",
+        &out,
+        56,
+    );
 }

@@ -1,5 +1,5 @@
-// Document 01's case "Readying", run on the two ends of one connection: S-RefreshReady sent at 1,000, s2 = 6,010,
-// m2 = 1,030, S-RefreshGO at 1,040.
+// Document 01's case "Readying", run on the two ends of one connection, in session 7: S-RefreshReady sent at 1,000,
+// s2 = 6,010, m2 = 1,030, S-RefreshGO at 1,040.
 use endpoint::Answer;
 use endpoint::Core;
 use endpoint::Reason;
@@ -22,7 +22,7 @@ fn fresh(role: u32) -> Core {
         0x60000032,
         0x70000007,
     ];
-    transitions::by_call::fresh(settings::settings_at(&list, 0))
+    transitions::by_call::fresh(settings::settings_at(&list, 0), 7)
 }
 
 // No frame of this connection: the end stays, and writes nothing.

@@ -10,13 +10,16 @@ returns c =
       c .before .before .before .before .pending-from .ensures,
       c .before .before .before .before .before .before .timestamp-from2 .ensures,
       c .before .before .before .before .before .before .before .before .timestamp-from .ensures,
-      c .before .before .before .before .before .before .before .before .before .before .state-from .ensures,
+      c .before .before .before .before .before .before .before .before .before .before .subconnection-of .ensures,
+      c .before .before .before .before .before .before .before .before .before .before .before .before .state-from
+          .ensures,
     )
 
 pub core-of-spec : {M : Type 1} → statement M
 core-of-spec =
     tie.close
     (tie.spec
+    (λ c κs. search needs)
     (λ c κs. search needs)
     (λ c κs. search needs)
     (λ c κs. search needs)

@@ -1,5 +1,6 @@
 -- `records::stored_of` meets its contract: number by number.
 use mathlib.Core.Path.{_≡_, ap, _∙_}
+use mathlib.Core.Bool.{not}
 use borrow.Author.Needs.{needs}
 use Rattle.records.specs.Records.{flagOf}
 use Rattle.records.proofs.stored_of.Statement.{statement}
@@ -7,7 +8,10 @@ use Rattle.records.proofs.stored_of.Tie as tie
 
 returns : tie.Need-returns
 returns c =
-    let notready = c .before in
+    let lacks = c .before in
+    let session = lacks .before in
+    let taken = session .before in
+    let notready = taken .before in
     let invoked = notready .before in
     let queue = invoked .before in
     let hasasked = queue .before in
@@ -25,6 +29,7 @@ returns c =
     let hasasked-is = hasasked .flag-of4 .ensures ∙ ap flagOf (asks .is-asked .ensures) in
     let hasaccepted-is = hasaccepted .flag-of3 .ensures ∙ ap flagOf (accepts .is-at2 .ensures) in
     let hassent-is = hassent .flag-of2 .ensures ∙ ap flagOf (sends .is-at .ensures) in
+    let hassession-is = c .flag-of8 .ensures ∙ ap flagOf (ap not (lacks .is-absent .ensures)) in
     λ i. record {
       since = e .since;
       sent = sent .time-in .ensures i;
@@ -50,14 +55,19 @@ returns c =
       notready = notready .flag-of6 .ensures i;
       words = e .words;
       errorinfo = e .errorinfo;
-      taken = c .flag-of7 .ensures i;
+      taken = taken .flag-of7 .ensures i;
       valueage = e .valueage;
+      session = session .session-in .ensures i;
+      hassession = hassession-is i;
     }
 
 pub stored-of-spec : {M : Type 1} → statement M
 stored-of-spec =
     tie.close
     (tie.spec
+    (λ c κs. search needs)
+    (λ c κs. search needs)
+    (λ c κs. search needs)
     (λ c κs. search needs)
     (λ c κs. search needs)
     (λ c κs. search needs)

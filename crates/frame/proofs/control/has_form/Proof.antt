@@ -6,15 +6,19 @@ use Rattle.frame.proofs.control.has_form.Tie as tie
 returns : tie.Need-returns
 unfolding hasForm
 returns c =
-    let may = c .before .before .before .before .before .before .before .before .before .before in
-    let go = may .before in
+    let absent = c .before .before in
+    let may = absent .before .before .before .before .before .before .before .before .before in
+    let connect = may .before in
     rw (
-      c .is-absent .ensures,
+      absent .is-absent .ensures,
       may .may-be-busy .ensures,
-      go .is3 .ensures,
-      go .before .is2 .ensures,
-      go .before .before .is .ensures,
+      connect .is4 .ensures,
+      connect .before .is3 .ensures,
+      connect .before .before .is2 .ensures,
+      connect .before .before .before .is .ensures,
     )
 
 pub has-form-spec : {M : Type 1} → statement M
-has-form-spec = tie.close (tie.spec (λ c κs. tt) (λ c κs. tt) (λ c κs. tt) (λ c κs. tt) (λ c κs. tt) returns)
+has-form-spec =
+    tie.close
+    (tie.spec (λ c κs. tt) (λ c κs. tt) (λ c κs. tt) (λ c κs. tt) (λ c κs. tt) (λ c κs. tt) returns)

@@ -32,10 +32,10 @@ use Rattle.gateway.proofs.calls.restart.Statement as stated
 use Rattle.gateway.proofs.calls.restart.Code as code
 
 abbrev asks : Call → S.Act
-asks c = S.restart
+asks c = S.restart (c .session)
 
 abbrev Then : List Record → Call → Called → List Record → Type 0
-Then ys c r zs = CallSays (restartIn (lent (c .gateway) ys) (c .clock) (c .entry)) zs r
+Then ys c r zs = CallSays (restartIn (lent (c .gateway) ys) (c .clock) (c .entry) (c .session)) zs r
 
 pub restart-spec : {M : Type 1} → stated.statement M
 unfolding code.routine tablesOf

@@ -1,7 +1,8 @@
--- `gateway::exports::folderpink_invoke` meets its contract: KeepBytes of `lent`.
+-- `gateway::exports::folderpink_invoke` meets its contract: KeepSlice of `lent`.
 use mathlib.Core.Path.{_≡_}
 use mathlib.Core.List.{List}
 use Prim.Native.Nat.{ℕ}
+use denote.Builtin.{u8}
 use Rattle.records.specs.declared.Record.{Record}
 use Rattle.gateway.specs.declared.Call.{Call}
 use Rattle.gateway.specs.declared.Called.{Called}
@@ -11,7 +12,7 @@ use Rattle.gateway.specs.Calls.{Result, invokeIn, CallSays}
 use Rattle.gateway.specs.Exports.{toldOf, LentCallSays}
 use Rattle.gateway.proofs.Types.{rec, call, gateway, called, told as told-type, in-call, in-called, keeps}
 use Rattle.gateway.proofs.Kept.{kept-call}
-use Rattle.lent.proofs.KeepBytes.{keep-meets}
+use Rattle.lent.proofs.KeepSlice.{keep-meets}
 use contract.Running.{givenOf, tables, tablesOf}
 use denote.Triple.Spec.{tripleOf}
 use denote.Triple.Table.{entered, cited}
@@ -45,7 +46,7 @@ unfolding code.routine tablesOf
 folderpink-invoke-spec 𝓤 H 𝓜 𝓖 𝓡 =
     entered 𝓤 H (tripleOf 𝓤 H (𝓖 .A) f.signature (f.spec 𝓤 H (𝓖 .A) (𝓜 .mem) (𝓡 .run)))
     (tables 𝓤 H 𝓜 𝓡 code.env .C) (tables 𝓤 H 𝓜 𝓡 code.env .Λ) #export code.function (code.unfolded 𝓤 H 𝓜 𝓡)
-    (keep-meets rec call gateway called told-type in-call in-called keeps #inner #told InnerSaid TellSaid Then
+    (keep-meets rec call gateway called told-type u8 in-call in-called keeps #inner #told InnerSaid TellSaid Then
     (λ c ys s t zs r. kept-call (comes ys c s) c zs t r)
     𝓤 H (𝓖 .A) (givenOf 𝓤 H 𝓜 𝓖) (tablesOf 𝓤 H 𝓜 (tables 𝓤 H 𝓜 𝓡 code.env))
     (cited 𝓤 H (tripleOf 𝓤 H (𝓖 .A) inner.signature (inner.spec 𝓤 H (𝓖 .A) (𝓜 .mem) (𝓡 .run))) 𝓜 𝓡 code.env #inner

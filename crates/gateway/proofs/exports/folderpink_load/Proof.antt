@@ -1,4 +1,4 @@
--- `gateway::exports::folderpink_load` meets its contract: KeepList of `lent`.
+-- `gateway::exports::folderpink_load` meets its contract: KeepSlice of `lent`.
 use mathlib.Core.Path.{_≡_}
 use mathlib.Core.List.{List}
 use Prim.Native.Nat.{ℕ}
@@ -11,7 +11,7 @@ use Rattle.gateway.specs.Calls.{LoadSays}
 use Rattle.gateway.specs.Exports.{toldOf, LentLoadSays}
 use Rattle.gateway.proofs.Types.{rec, call, gateway, called, told as told-type, in-call, in-called, keeps}
 use Rattle.gateway.proofs.Kept.{kept-load}
-use Rattle.lent.proofs.KeepList.{keep-meets}
+use Rattle.lent.proofs.KeepSlice.{keep-meets}
 use contract.Running.{givenOf, tables, tablesOf}
 use denote.Triple.Spec.{tripleOf}
 use denote.Triple.Table.{entered, cited}
@@ -28,8 +28,8 @@ use Rattle.gateway.proofs.exports.folderpink_load as f
 use Rattle.gateway.proofs.exports.folderpink_load.Statement as stated
 use Rattle.gateway.proofs.exports.folderpink_load.Code as code
 
-abbrev InnerSaid : List Record → List ℕ → Called → List Record → Type 0
-InnerSaid ys list t zs = LoadSays list ys zs t
+abbrev InnerSaid : List Record → Call → List ℕ → Called → List Record → Type 0
+InnerSaid ys c list t zs = LoadSays (c .session) list ys zs t
 
 abbrev TellSaid : Called → Told → Type 0
 TellSaid t r = r ≡ toldOf t

@@ -28,7 +28,7 @@ use Rattle.gateway.proofs.exports.folderpink_restart.Statement as state
 use Rattle.gateway.proofs.exports.folderpink_restart.Code as code
 
 abbrev comes : List Record → Call → Result
-comes ys c = restartIn (lent (c .gateway) ys) (c .clock) (c .entry)
+comes ys c = restartIn (lent (c .gateway) ys) (c .clock) (c .entry) (c .session)
 
 abbrev InnerSaid : List Record → Call → Called → List Record → Type 0
 InnerSaid ys c t zs = CallSays (comes ys c) zs t

@@ -1,8 +1,9 @@
--- `replay::lending::invoke` is safe: ByValueBytes of `lent`.
+-- `replay::lending::invoke` is safe: ByValueSlice of `lent`.
 use contract.Running.{givenOf, tables, tablesOf}
+use denote.Builtin.{u8}
 use denote.Triple.Spec.{tripleOf}
 use denote.Triple.Table.{entered, cited}
-use Rattle.lent.proofs.ByValueBytes.{by-value-meets}
+use Rattle.lent.proofs.ByValueSlice.{by-value-meets}
 use Rattle.gateway.proofs.Types.{rec, call, call-plain, called}
 use Rattle.gateway.proofs.calls.invoke as lent
 use Rattle.gateway.proofs.calls.invoke.Symbol as lent-def
@@ -19,7 +20,7 @@ unfolding code.routine tablesOf
 invoke-spec 𝓤 H 𝓜 𝓖 𝓡 =
     entered 𝓤 H (tripleOf 𝓤 H (𝓖 .A) f.signature (f.spec 𝓤 H (𝓖 .A) (𝓜 .mem) (𝓡 .run)))
     (tables 𝓤 H 𝓜 𝓡 code.env .C) (tables 𝓤 H 𝓜 𝓡 code.env .Λ) #lending code.function (code.unfolded 𝓤 H 𝓜 𝓡)
-    (by-value-meets rec call called answered 70 room answers call-plain #lent 𝓤 H (𝓖 .A) (givenOf 𝓤 H 𝓜 𝓖)
+    (by-value-meets rec call called answered u8 70 room answers call-plain #lent 𝓤 H (𝓖 .A) (givenOf 𝓤 H 𝓜 𝓖)
     (λ κs a r e. lent.clauses 𝓤 H (𝓖 .A) (𝓜 .mem) (𝓡 .run) κs a .ensures tt r e)
     (tablesOf 𝓤 H 𝓜 (tables 𝓤 H 𝓜 𝓡 code.env))
     (cited 𝓤 H (tripleOf 𝓤 H (𝓖 .A) lent.signature (lent.spec 𝓤 H (𝓖 .A) (𝓜 .mem) (𝓡 .run))) 𝓜 𝓡 code.env #lent

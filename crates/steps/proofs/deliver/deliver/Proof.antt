@@ -38,7 +38,7 @@ returns-3 c =
     let a = i .before .before .before .before .before .args in
     let b = bare (a .e) in
     let e = withHanded (a .words .now) (a .errorinfo .now) b in
-    let o = takeRefresh e (a .clock) (a .f .timestamp) (a .body .now) in
+    let o = takeRefresh e (a .clock) (a .f .subconnection) (a .f .timestamp) (a .body .now) in
     quiet (a .out .now) b (deliverOf e (a .clock) (a .f) (a .body .now)) (i .if1 .left) (o .answer) (o .endpoint)
     (deliver-refresh e (a .clock) (a .f) (a .body .now) (k .before .if2 .left)
     (sym (k .is .ensures) ∙ c .before .if3 .taken))

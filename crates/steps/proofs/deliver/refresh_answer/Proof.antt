@@ -16,13 +16,15 @@ returns c =
       g .allowance .ensures,
       s .is-above .ensures,
       s .before .show-width .ensures,
-      s .before .before .is-state .ensures,
+      s .before .before .is-foreign .ensures,
+      s .before .before .before .is-state .ensures,
     )
 
 pub refresh-answer-spec : {M : Type 1} → statement M
 refresh-answer-spec =
     tie.close
     (tie.spec
+    (λ c κs. search needs)
     (λ c κs. search needs)
     (λ c κs. search needs)
     (λ c κs. search needs)

@@ -8,7 +8,8 @@ returns c =
     let x = c .before .before .before .before in
     let d = x .before in
     let r = d .before .before in
-    let s = r .before .before in
+    let n = r .before in
+    let s = n .before .before in
     let k = s .before .before in
     let p = k .before .before in
     rw (
@@ -19,7 +20,8 @@ returns c =
       d .due-data .ensures .counted,
       d .before .is-record .ensures,
       r .replies-record .ensures,
-      r .before .is2 .ensures,
+      n .lacks-number .ensures,
+      n .before .is2 .ensures,
       s .is-result .ensures,
       s .before .answers-to .ensures,
       k .is .ensures,
@@ -32,6 +34,7 @@ pub reply-answer-spec : {M : Type 1} → statement M
 reply-answer-spec =
     tie.close
     (tie.spec
+    (λ c κs. search needs)
     (λ c κs. search needs)
     (λ c κs. search needs)
     (λ c κs. search needs)

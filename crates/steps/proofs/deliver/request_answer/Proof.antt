@@ -14,13 +14,15 @@ returns c =
       x .before .is-width .ensures,
       i .is-above .ensures,
       i .before .lacks-record .ensures,
-      i .before .before .is-turn .ensures,
+      i .before .before .lacks-session .ensures,
+      i .before .before .before .is-turn .ensures,
     )
 
 pub request-answer-spec : {M : Type 1} → statement M
 request-answer-spec =
     tie.close
     (tie.spec
+    (λ c κs. search needs)
     (λ c κs. search needs)
     (λ c κs. search needs)
     (λ c κs. search needs)

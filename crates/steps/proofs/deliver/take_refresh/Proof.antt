@@ -29,7 +29,7 @@ returns c =
     let e = bare (a .e) in
     let r = s .refresh-answer .result in
     let q = s .refresh-answer .ensures
-    ∙ ap (λ (n : ℕ). firstOf (refreshFaultsAt e n (a .stamp) (length (a .body .now)))) (g .age-of .ensures) in
+    ∙ ap (λ (n : ℕ). firstOf (refreshFaultsAt e n (a .session) (a .stamp) (length (a .body .now)))) (g .age-of .ensures) in
     let h : r ≡ Done = is-done r (sym (d .is-done .ensures) ∙ i .if1 .taken) in
     c .stepped .ensures ∙ ap (λ (x : Core). steppedOf Done x 0) (c .before .refreshed .ensures)
     ∙ ap (λ (n : ℕ). steppedOf Done (coreOf (refreshedAt e (a .clock) (a .stamp) n noBytes)) 0)
@@ -47,7 +47,7 @@ returns-2 c =
     let e = bare (a .e) in
     let r = s .refresh-answer .result in
     let q = s .refresh-answer .ensures
-    ∙ ap (λ (n : ℕ). firstOf (refreshFaultsAt e n (a .stamp) (length (a .body .now)))) (g .age-of .ensures) in
+    ∙ ap (λ (n : ℕ). firstOf (refreshFaultsAt e n (a .session) (a .stamp) (length (a .body .now)))) (g .age-of .ensures) in
     c .refused .ensures
     ∙ sym (ap (λ (x : Endpoint). steppedOf r (coreOf x) 0)
     (left-refused e (endedOf e) (refreshedOf e (a .clock) (a .stamp) (paddedOf (a .body .now))) r (sym (d .is-done .ensures) ∙ i .if1 .left)))

@@ -5,12 +5,15 @@ use Rattle.steps.proofs.frames.request_fields.Tie as tie
 
 returns : tie.Need-returns
 returns c =
-    let b = c .before in rw (c .sent-fields .ensures, b .baseline-of .ensures, b .before .request-due .ensures)
+    let b = c .before in
+    let s = b .before in
+    rw (c .sent-fields .ensures, b .baseline-of .ensures, s .session-with .ensures, s .before .request-due .ensures)
 
 pub request-fields-spec : {M : Type 1} → statement M
 request-fields-spec =
     tie.close
     (tie.spec
+    (λ c κs. search needs)
     (λ c κs. search needs)
     (λ c κs. search needs)
     (λ c κs. search needs)

@@ -47,7 +47,8 @@ returns-4 c =
     let w = c .before .before .before .before in
     let h = w .before .before in
     let f = h .before in
-    let t = f .before .before .before in
+    let n = f .before in
+    let t = n .before .before .before in
     let d = t .before .before in
     let s = d .before in
     let stamp = s .before .time-of .ensures in
@@ -61,7 +62,7 @@ returns-4 c =
     rw (← stamp, ← s .stop-answer .ensures, ← d .is-dropped .ensures, t .before .if2 .left, t .if3 .left) in
     loud (a .out .now) e (stopOf e (a .clock)) room Done x g b q
     (whole g b (a .out .now) room (disconnect-writable e (a .clock))
-    (rw (h .head-of .ensures, f .sent-fields .ensures, stamp, f .before .setup-data .ensures .holds)
+    (rw (h .head-of .ensures, f .sent-fields .ensures, n .session-of .ensures, stamp, n .before .setup-data .ensures .holds)
     at (w .write-data .ensures)))
     (rw (← stamp, ← c .before .stopped2 .ensures) (c .stepped4 .ensures))
 
@@ -82,7 +83,8 @@ stop-spec =
     (λ c κs. search needs)
     (λ c κs. search needs)
     (λ c κs. search needs)
-    (λ c κs. c .before .before .before .setup-data .ensures .fits)
+    (λ c κs. search needs)
+    (λ c κs. c .before .before .before .before .setup-data .ensures .fits)
     (λ c κs. search needs)
     (λ c κs. search needs)
     (λ c. search needs)

@@ -46,7 +46,8 @@ returns-3 c =
     let w = c .before .before .before .before in
     let h = w .before .before in
     let f = h .before in
-    let i = f .before .before in
+    let m = f .before in
+    let i = m .before .before in
     let d = i .before .before in
     let s = d .before in
     let stamp = s .before .time-of .ensures in
@@ -58,7 +59,7 @@ returns-3 c =
     let g = refreshFields e (a .clock) in
     let room = s .before .before .if1 .left in
     let done = not-false (d .is-done .result) (i .before .if2 .left) in
-    let refresh = sym (i .is-state .ensures) ∙ f .before .if3 .taken in
+    let refresh = sym (i .is-state .ensures) ∙ m .before .if3 .taken in
     let n : length v ≡ sendWidth (a .e .settings) =
     sent-width e (a .clock) (length v) refresh
     (rw (← stamp, ← s .send-answer .ensures) (is-done (s .send-answer .result) (sym (d .is-done .ensures) ∙ done))) in
@@ -67,7 +68,7 @@ returns-3 c =
     loud (a .out .now) b (sendOf e (a .clock) v) room Done x g v q
     (whole g v (a .out .now) room
     (refresh-writable e (a .clock) (length v) (rw n (send-width-length (a .e .settings))))
-    (rw (h .head-of .ensures, f .sent-fields .ensures, stamp) at (w .write-head .ensures)))
+    (rw (h .head-of .ensures, f .sent-fields .ensures, m .session-of .ensures, stamp) at (w .write-head .ensures)))
     (rw (← stamp, ← c .before .with-sent .ensures) (c .stepped2 .ensures))
 
 returns-4 : tie.Need-returns-4
@@ -108,6 +109,7 @@ send-spec =
     (λ c κs. search needs)
     (λ c κs. search needs)
     returns-2
+    (λ c κs. search needs)
     (λ c κs. search needs)
     (λ c κs. search needs)
     (λ c κs. search needs)

@@ -1,9 +1,9 @@
 -- A lent function, called by value, as a law, for any types of plain data:
---     fn f(rs: [T; m], n: usize, c: N, bytes: &[u8]) -> S {
---         let mut a = rs; let called = call(&mut a[..n], c, bytes); S { records: a, called: called }
+--     fn f(rs: [T; m], n: usize, c: N, list: &[E]) -> S {
+--         let mut a = rs; let called = call(&mut a[..n], c, list); S { records: a, called: called }
 --     }
--- with `fn call(rs: &mut [T], c: N, bytes: &[u8]) -> O`, which asks nothing. n is at most m; nothing is said of what
--- comes of it.
+-- with `fn call(rs: &mut [T], c: N, list: &[E]) -> O`, which asks nothing, and E any type. n is at most m; nothing is
+-- said of what comes of it.
 -- No reference to a record is in the signature: so a program that the borrow checker covers reaches a lent function.
 -- It says nothing of the crate.
 -- Assumes `Given`.
@@ -28,10 +28,10 @@ use types.Run.{enter, alloc1, alloc0, params1, pass1, pass0, free1, free0}
 use types.Part.{agg}
 use types.Tokens.{lft-new, lft-end}
 use sound.WpLaws.{fmOf, WpFn-mono}
-use denote.RattleType.{owns}
+use denote.RattleType.{RattleType, owns}
 use denote.Laws.{Is, shows}
 use denote.Plain.{uint-vals, uint-tells, uint-makes}
-use denote.Builtin.{u8, usize}
+use denote.Builtin.{usize}
 use denote.Memory.{pointee}
 use denote.Ref.{RefT, now}
 use denote.Slice.{sliceTy, sliceVal, ShrSlice, Room, slice-vals, shr-slice-tells}
@@ -50,7 +50,8 @@ use Rattle.lent.proofs.Data.{Data, row, vals, Plain, of-array, array-pl
 use Rattle.lent.proofs.Front.{Says, asksNothing, Answers, is-answer, typed-answer, lentAs, Lent, Kept}
 use Rattle.lent.proofs.Front.{lends-front, front-back}
 
-module _ (R N O S : Data) (m : ℕ) (m-room : Room (row R) m) (𝓑 : Answers R O S m) (PN : Plain N) (name : Name) where
+module _ (R N O S : Data) (E : RattleType) (m : ℕ) (m-room : Room (row R) m) (𝓑 : Answers R O S m) (PN : Plain N)
+    (name : Name) where
   -- the array
   abbrev X : Data
   X = of-array R m
@@ -62,13 +63,13 @@ module _ (R N O S : Data) (m : ℕ) (m-room : Room (row R) m) (𝓑 : Answers R 
   slice = sliceTy (tyRef erased mut (pointee (R .written)))
 
   abbrev shared : Ty
-  shared = sliceTy (tyRef (named 0) imm (pointee (u8 .written)))
+  shared = sliceTy (tyRef (named 0) imm (pointee (E .written)))
 
   abbrev pub signature : Signature
   signature = record {
     lifetimes = 1;
     outlives = [];
-    params = plain (λ _. row X) ∷ plain (λ _. usize) ∷ plain (λ _. row N) ∷ shrSlice 0 tt (λ _. u8) ∷ [];
+    params = plain (λ _. row X) ∷ plain (λ _. usize) ∷ plain (λ _. row N) ∷ shrSlice 0 tt (λ _. E) ∷ [];
     result = plain (λ _. row S);
   }
 
@@ -95,7 +96,7 @@ module _ (R N O S : Data) (m : ℕ) (m-room : Room (row R) m) (𝓑 : Answers R 
   abbrev stayed : Stays (ended .signature .params) (ended .kept)
   stayed = (
     stay-none (λ _. row X) yes,
-    (stay-none (λ _. usize) yes, (stay-none (λ _. row N) yes, (stay-dropped (shrSlice 0 tt (λ _. u8)) yes, tt))),
+    (stay-none (λ _. usize) yes, (stay-none (λ _. row N) yes, (stay-dropped (shrSlice 0 tt (λ _. E)) yes, tt))),
   )
 
   -- the lent function
@@ -104,7 +105,7 @@ module _ (R N O S : Data) (m : ℕ) (m-room : Room (row R) m) (𝓑 : Answers R 
     signature = record {
       lifetimes = 2;
       outlives = [];
-      params = mutSlice 0 tt (λ _. row R) ∷ plain (λ _. row N) ∷ shrSlice 1 tt (λ _. u8) ∷ [];
+      params = mutSlice 0 tt (λ _. row R) ∷ plain (λ _. row N) ∷ shrSlice 1 tt (λ _. E) ∷ [];
       result = plain (λ _. row O);
     };
     kept = (yes, (yes, (yes, tt)));
@@ -122,13 +123,13 @@ module _ (R N O S : Data) (m : ℕ) (m-room : Room (row R) m) (𝓑 : Answers R 
     abbrev pub Callee : Contract 𝓤
     Callee = tripleOf 𝓤 H A (lent-ended .signature) (closing 𝓤 H A lent-ended lent-clauses)
 
-    module _ (κ : Lft) (q : Share) (ys : List (R .Denot)) (n : ℕ) (c : N .Denot) (xv : RefT (List ℕ))
+    module _ (κ : Lft) (q : Share) (ys : List (R .Denot)) (n : ℕ) (c : N .Denot) (xv : RefT (List (E .Denot)))
         (within : n ≤ m) (is-ys : Is (row X) ys (vals X ys)) (n-fits : n < 2 ^ 64) (is-c : Is (row N) c (vals N c))
-        (v-room : Room u8 (length (xv .now))) where
+        (v-room : Room E (length (xv .now))) where
       abbrev svv : Val
       svv = sliceVal (xv .ptr) (length (xv .now))
 
-      abbrev a : List (R .Denot) × (ℕ × (N .Denot × (RefT (List ℕ) × Unit {0})))
+      abbrev a : List (R .Denot) × (ℕ × (N .Denot × (RefT (List (E .Denot)) × Unit {0})))
       a = (ys, (n, (c, (xv, tt))))
 
       abbrev at : List Val × (List Val × (List Val × (List Val × Unit {0})))
@@ -158,9 +159,9 @@ module _ (R N O S : Data) (m : ℕ) (m-room : Room (row R) m) (𝓑 : Answers R 
         tt,
       )
 
-      -- the bytes, with its lifetime's token
+      -- the list, with its lifetime's token
       abbrev input : Item 𝓤
-      input = (‵ (flft κ q) ⊛ ‵ ftrue) ⊛ ‵ (ShrSlice (named 0) κ u8 .own xv (svv ∷ []))
+      input = (‵ (flft κ q) ⊛ ‵ ftrue) ⊛ ‵ (ShrSlice (named 0) κ E .own xv (svv ∷ []))
 
       goes : (b ν : ℕ) (δ : GName)
           → ent 𝓤 (⋆ 𝓤 H A (‵ (flft (ν ∷ []) fullShare) ∷ ‵ (Lent R (ν ∷ []) ys n b δ) ∷ input ∷ []))
@@ -192,7 +193,7 @@ module _ (R N O S : Data) (m : ℕ) (m-room : Room (row R) m) (𝓑 : Answers R 
             (WpFn 𝓤 H (𝓣 .C) (𝓣 .Λ) function (X .val ys ∷ vint w64 n ∷ N .val c ∷ svv ∷ []) Post)
         walk =
             qed W ((‵ (flft κ q) ⊛ ‵ ftrue)
-            ∷ ‵ (owns (row X ∷ usize ∷ row N ∷ ShrSlice (named 0) κ u8 ∷ []) a at) ∷ []) ∵
+            ∷ ‵ (owns (row X ∷ usize ∷ row N ∷ ShrSlice (named 0) κ E ∷ []) a at) ∷ []) ∵
             enter ! (𝓣 .C) (𝓣 .Λ) function (X .val ys ∷ vint w64 n ∷ N .val c ∷ svv ∷ []) _ $
             alloc1 ! (λ l₀. alloc1 ! (λ l₁. alloc1 ! (λ l₂. alloc1 ! (λ l₃. alloc1 ! (λ l₄. alloc1 ! (λ l₅.
             alloc1 ! (λ l₆. alloc1 ! (λ l₇. alloc1 ! (λ l₈. alloc1 ! (λ l₉. alloc0 ! $ params1 ! $
@@ -263,7 +264,7 @@ module _ (R N O S : Data) (m : ℕ) (m-room : Room (row R) m) (𝓑 : Answers R 
       by-value-walks : Walks 𝓤 H A ended stayed (WpFn 𝓤 H (𝓣 .C) (𝓣 .Λ) function) (clauses 𝓤)
       by-value-walks = walked 𝓤 H A ended stayed (clauses 𝓤) (WpFn 𝓤 H (𝓣 .C) (𝓣 .Λ) function)
           (λ κs. (vals X, (uint-vals w64, (vals N, (slice-vals, tt)))))
-          (λ κs. (PX .tells, (uint-tells w64, (PN .tells, (shr-slice-tells (named 0) (κs .0) u8, tt)))))
+          (λ κs. (PX .tells, (uint-tells w64, (PN .tells, (shr-slice-tells (named 0) (κs .0) E, tt)))))
           (λ κs qs bounds a g are. needs 𝓤 (a .1 .0 ≤ m) _ (λ within.
           walk (κs .0) (qs .0) (a .0) (a .1 .0) (a .1 .1 .0) (a .1 .1 .1 .0) within
           (are .0) (are .1 .0 .1) (are .1 .1 .0) (are .1 .1 .1 .0 .0 .1) 𝓣 known))
@@ -276,7 +277,7 @@ module _ (R N O S : Data) (m : ℕ) (m-room : Room (row R) m) (𝓑 : Answers R 
           goes-none 𝓤 H A W 1 (λ _. usize) yes (λ κs x f. refl),
           (
             goes-none 𝓤 H A W 1 (λ _. row N) yes (λ κs x f. refl),
-            (goes-dropped 𝓤 H A W 1 (shrSlice 0 tt (λ _. u8)) yes (λ κs x f. refl), tt),
+            (goes-dropped 𝓤 H A W 1 (shrSlice 0 tt (λ _. E)) yes (λ κs x f. refl), tt),
           ),
         ),
       )

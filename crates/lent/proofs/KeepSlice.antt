@@ -1,10 +1,10 @@
 -- A call whose input is lent beside the records, as a law, for any types of plain data:
 --     fn f(c: &mut N, rs: &mut [R], list: &[E]) -> O {
---         let t = inner(rs, list); c.g = t.g; tell(t)
+--         let t = inner(rs, *c, list); c.g = t.g; tell(t)
 --     }
--- with `fn inner(rs: &mut [R], list: &[E]) -> T` and `fn tell(t: T) -> O`, which ask nothing of their callers. Of each
--- only what it ensures is known: InnerSaid, TellSaid. The field g, a G, of the answer is kept in the input, for the
--- next call; all else of the input stays.
+-- with `fn inner(rs: &mut [R], c: N, list: &[E]) -> T` and `fn tell(t: T) -> O`, which ask nothing of their callers; E
+-- any type. Of each only what it ensures is known: InnerSaid, TellSaid. The field g, a G, of the answer is kept in the
+-- input, for the next call; all else of the input stays.
 -- Where the MIR of a crate's function is `function`, and it ensures one fact `Then` that follows from those two, the
 -- law proves it. It says nothing of the crate.
 -- Assumes `Given`.
@@ -26,7 +26,7 @@ use contract.Monad.{fact, factI}
 use types.Kit.{Given, ‵, raw, _⊛_, some, later, ⋆, _$_, _∵_, !, qed, by, move, keep, drop, use1, use2, rewrite}
 use types.Kit.{split, join, pick, fsplit, fsplit3, fjoin, fjoin3, feqL, feqI, suffices, frame, await, done}
 use types.SemTy.{Body}
-use types.Run.{look, init, forget, stop, hop, fld, from, load, addr, of-opd, and-then, no-more, assigns}
+use types.Run.{look, look-raw, init, forget, stop, hop, fld, from, load, addr, of-opd, and-then, no-more, assigns}
 use types.Run.{land, returns, enter, alloc1, alloc0, params1, pass1, pass0, free1, free0}
 use types.Part.{agg, whole, sub, look-in, store-in}
 use sound.WpLaws.{fmOf, WpFn-mono}
@@ -80,12 +80,14 @@ module _ (R N G T O : Data) (E : RattleType) (𝓝 : Inside N G) (𝓗 : Inside 
     outlives = [];
     params = 3;
     locals = local (O .ty) valueLocal ∷ local call-ref valueLocal ∷ local (slice (named 1)) valueLocal ∷ local shared
-        valueLocal ∷ local (T .ty) valueLocal ∷ local ref valueLocal ∷ local (slice erased) valueLocal ∷ [];
+        valueLocal ∷ local (T .ty) valueLocal ∷ local ref valueLocal ∷ local (slice erased) valueLocal ∷ local
+        (N .ty) valueLocal ∷ [];
     body = seq (assign (place 5 []) (addrOf (place 2 (field 0 ∷ deref (R .ty) ∷ []))))
         (seq (assign (place 6 []) (aggregate (copy (place 5 []) ∷ copy (place 2 (field 1 ∷ [])) ∷ [])))
-        (seq (call inner-name (copy (place 6 []) ∷ copy (place 3 []) ∷ []) (place 4 []))
+        (seq (assign (place 7 []) (rvOpd (copy (place 1 (deref (N .ty) ∷ [])))))
+        (seq (call inner-name (copy (place 6 []) ∷ copy (place 7 []) ∷ copy (place 3 []) ∷ []) (place 4 []))
         (seq (assign (place 1 (deref (N .ty) ∷ field (𝓝 .key) ∷ [])) (rvOpd (copy (place 4 (field (𝓗 .key) ∷ [])))))
-        (seq (call tell-name (copy (place 4 []) ∷ []) (place 0 [])) return))));
+        (seq (call tell-name (copy (place 4 []) ∷ []) (place 0 [])) return)))));
   }
 
   abbrev pub ended : Ended
@@ -103,10 +105,10 @@ module _ (R N G T O : Data) (E : RattleType) (𝓝 : Inside N G) (𝓗 : Inside 
     signature = record {
       lifetimes = 2;
       outlives = [];
-      params = mutSlice 0 tt (λ _. row R) ∷ shrSlice 1 tt (λ _. E) ∷ [];
+      params = mutSlice 0 tt (λ _. row R) ∷ plain (λ _. row N) ∷ shrSlice 1 tt (λ _. E) ∷ [];
       result = plain (λ _. row T);
     };
-    kept = (yes, (yes, tt));
+    kept = (yes, (yes, (yes, tt)));
   }
 
   abbrev pub tell-ended : Ended
@@ -120,12 +122,12 @@ module _ (R N G T O : Data) (E : RattleType) (𝓝 : Inside N G) (𝓗 : Inside 
     kept = (yes, tt);
   }
 
-  module _ (InnerSaid : List (R .Denot) → List (E .Denot) → T .Denot → List (R .Denot) → Type 0)
+  module _ (InnerSaid : List (R .Denot) → N .Denot → List (E .Denot) → T .Denot → List (R .Denot) → Type 0)
       (TellSaid : T .Denot → O .Denot → Type 0)
       (Then : N .Denot → List (R .Denot) → List (E .Denot) → O .Denot → N .Denot → List (R .Denot) → Type 0)
       (follows : (c : N .Denot) (ys : List (R .Denot)) (vs : List (E .Denot)) (t : T .Denot) (zs : List (R .Denot))
       (r : O .Denot)
-      → InnerSaid ys vs t zs → TellSaid t r → Then c ys vs r (𝓝 .put c (𝓗 .get t)) zs) where
+      → InnerSaid ys c vs t zs → TellSaid t r → Then c ys vs r (𝓝 .put c (𝓗 .get t)) zs) where
     module _ {M : Type 1} (𝓤 : URA M) where
       abbrev pub clauses : Clauses 𝓤 ended
       clauses κs a = record {
@@ -138,7 +140,7 @@ module _ (R N G T O : Data) (E : RattleType) (𝓝 : Inside N G) (𝓗 : Inside 
       inner-clauses κs a = record {
         ghost = Unit {0};
         requires = λ _. emp 𝓤;
-        ensures = λ _ t e. fact 𝓤 (InnerSaid (now (a .0)) (now (a .1 .0)) t (now (e .0)));
+        ensures = λ _ t e. fact 𝓤 (InnerSaid (now (a .0)) (a .1 .0) (now (a .1 .1 .0)) t (now (e .0)));
       }
 
       abbrev pub tell-clauses : Clauses 𝓤 tell-ended
@@ -200,19 +202,21 @@ module _ (R N G T O : Data) (E : RattleType) (𝓝 : Inside N G) (𝓗 : Inside 
 
         -- what the callee's triple binds outside, and that the caller has what it asks
         abbrev to-inner : Inner .Ghost
-        to-inner = (((κ, (κv, tt)), (q, (qv, tt)), tt, (x, (xv, tt)), (sv ∷ [], (svv ∷ [], tt))), tt)
+        to-inner = (((κ, (κv, tt)), (q, (qv, tt)), tt, (x, (c, (xv, tt))), (sv ∷ [], (vals N c, (svv ∷ [], tt)))), tt)
 
-        goes-inner : ent 𝓤 (⋆ 𝓤 H A ((‵ (flft κ q) ⊛ (‵ (flft κv qv) ⊛ ‵ ftrue)) ∷
+        goes-inner : Is (row N) c (vals N c) → ent 𝓤
+            (⋆ 𝓤 H A ((‵ (flft κ q) ⊛ (‵ (flft κv qv) ⊛ ‵ ftrue)) ∷
             ‵ (owns (MutSlice (named 1) κ (row R) ∷ ShrSlice (named 2) κv E ∷ []) (x, (xv, tt))
             (sv ∷ [], (svv ∷ [], tt))) ∷ [])) (Inner .pre to-inner)
-        goes-inner =
+        goes-inner is =
             qed W ((‵ (flft κ q) ⊛ (‵ (flft κv qv) ⊛ ‵ ftrue)) ∷
             ‵ (owns (MutSlice (named 1) κ (row R) ∷ ShrSlice (named 2) κv E ∷ []) (x, (xv, tt))
-            (sv ∷ [], (svv ∷ [], tt))) ∷ []) ∵ move ! (1 ∷ []) $ move ! (1 ∷ 0 ∷ []) $ join ! $ frame ! $
-            by ! (id⊢ 𝓤 (emp 𝓤))
+            (sv ∷ [], (svv ∷ [], tt))) ∷ []) ∵ move ! (1 ∷ []) $ fsplit ! $
+            owned ! (row N) (Is (row N)) (𝓑 .n-plain .makes 𝓤 H A W) c _ is $ move ! (0 ∷ 2 ∷ []) $ fjoin ! $
+            move ! (1 ∷ 0 ∷ []) $ fjoin ! $ move ! (1 ∷ 0 ∷ []) $ join ! $ frame ! $ by ! (id⊢ 𝓤 (emp 𝓤))
 
         exits : (t : T .Denot) (zs : List (R .Denot)) (r : O .Denot)
-            → InnerSaid ys vs t zs → TellSaid t r → length zs ≡ length ys → Is (row O) r (vals O r)
+            → InnerSaid ys c vs t zs → TellSaid t r → length zs ≡ length ys → Is (row O) r (vals O r)
             → ent 𝓤 (⋆ 𝓤 H A (‵ (fobs γc (N .coded .code (𝓝 .put c (𝓗 .get t)))) ∷
             ‵ (fbor κc (Body (mem (row N)) bc oc γc)) ∷ ‵ (flft κc qc) ∷ (‵ (flft κ q) ⊛ (‵ (flft κv qv) ⊛ ‵ ftrue)) ∷
             ‵ (finally (row R) γ zs) ∷ [])) (Post (O .val r))
@@ -238,20 +242,21 @@ module _ (R N G T O : Data) (E : RattleType) (𝓝 : Inside N G) (𝓗 : Inside 
               ‵ (owns (MutRef (named 0) κc (row N) ∷ MutSlice (named 1) κ (row R) ∷ ShrSlice (named 2) κv E ∷ []) a
               at) ∷ []) ∵ enter ! (𝓣 .C) (𝓣 .Λ) function (vptr bc oc ∷ sv ∷ svv ∷ []) _ $
               alloc1 ! (λ l₀. alloc1 ! (λ l₁. alloc1 !
-              (λ l₂. alloc1 ! (λ l₃. alloc1 ! (λ l₄. alloc1 ! (λ l₅. alloc1 ! (λ l₆. alloc0 ! $ params1 ! $
-              pass1 ! (init ! 10 refl (tt, tt)) $ pass1 ! (init ! 8 refl (tt, (tt, (record { fits = room .0 }, tt)))) $
-              pass1 ! (init ! 6 refl (tt, (tt, (record { fits = v-room .0 }, tt)))) $ pass0 ! $
-              assigns ! (addr ! (from ! (fld ! refl (hop ! (look-in ! 8 (sub ! 0 refl (whole !))) (stop !)))))
-              (from ! (stop !)) (init ! 2 refl (tt, tt)) $
-              assigns ! (agg ! (and-then ! (load ! (from ! (stop !)) (look ! 2 refl))
-              (and-then ! (load ! (from ! (fld ! refl (stop !))) (look-in ! 8 (sub ! 1 refl (whole !)))) (no-more !))))
-              (from ! (stop !)) (init ! 0 refl (tt, (tt, (record { fits = room .0 }, tt)))) $
+              (λ l₂. alloc1 ! (λ l₃. alloc1 ! (λ l₄. alloc1 ! (λ l₅. alloc1 ! (λ l₆.
+              alloc1 ! (λ l₇. alloc0 ! $ params1 ! $
+              pass1 ! (init ! 12 refl (tt, tt)) $ pass1 ! (init ! 10 refl (tt, (tt, (record { fits = room .0 }, tt)))) $
+              pass1 ! (init ! 8 refl (tt, (tt, (record { fits = v-room .0 }, tt)))) $ pass0 ! $
+              assigns ! (addr ! (from ! (fld ! refl (hop ! (look-in ! 10 (sub ! 0 refl (whole !))) (stop !)))))
+              (from ! (stop !)) (init ! 4 refl (tt, tt)) $
+              assigns ! (agg ! (and-then ! (load ! (from ! (stop !)) (look ! 4 refl))
+              (and-then ! (load ! (from ! (fld ! refl (stop !))) (look-in ! 10 (sub ! 1 refl (whole !)))) (no-more !))))
+              (from ! (stop !)) (init ! 2 refl (tt, (tt, (record { fits = room .0 }, tt)))) $
               -- the input is open from here until the field is kept in it
-              move ! (15 ∷ []) $
+              move ! (17 ∷ []) $
               fsplit ! $
               fsplit3 ! $
               drop ! $
-              move ! (17 ∷ []) $
+              move ! (19 ∷ []) $
               split ! $
               move ! (2 ∷ 3 ∷ 0 ∷ []) $
               opens ! tt (row N) {h = c} bc oc (λ us. spelt ! (row N) (Is (row N)) (shows 𝓤 H A (row N)) (vals N)
@@ -259,24 +264,27 @@ module _ (R N G T O : Data) (E : RattleType) (𝓝 : Inside N G) (𝓗 : Inside 
               move ! (1 ∷ []) $
               peeks ! (row N) (Is (row N)) (shows 𝓤 H A (row N)) c (vals N c) (λ is-c.
               move ! (1 ∷ 0 ∷ []) $
+              assigns ! (of-opd ! (load ! (from ! (hop ! (look ! 19 refl) (stop !))) (look-raw ! 0 refl)))
+              (from ! (stop !)) (init ! 7 refl (𝓑 .n-plain .typed 𝓤 H A W c _ is-c)) $
               -- all else goes to the callee at its own lifetime, for good
               move ! (5 ∷ 6 ∷ []) $
-              use2 W (raw (Inner .pre to-inner)) goes-inner $
+              use2 W (raw (Inner .pre to-inner)) (goes-inner is-c) $
               calls-at ! (fmOf 𝓤 H (W .laws) 𝓣) Inner known-inner to-inner
+              (and-then ! (load ! (from ! (stop !)) (look ! 8 refl))
               (and-then ! (load ! (from ! (stop !)) (look ! 6 refl))
-              (and-then ! (load ! (from ! (stop !)) (look ! 12 refl)) (no-more !))) (λ mt.
+              (and-then ! (load ! (from ! (stop !)) (look ! 14 refl)) (no-more !)))) (λ mt.
               use1 W (later (some (λ (t : T .Denot).
               ((‵ (flft κ q) ⊛ (‵ (flft κv qv) ⊛ ‵ ftrue)) ⊛ ‵ (T .own t (mt ∷ []))) ⊛ raw
-              (ensured 𝓤 H A inner-ended (inner-clauses 𝓤) (κ, (κv, tt)) (x, (xv, tt)) tt t)))) (id⊢ 𝓤 _) $ await ! tt $
-              pick ! (λ t.
+              (ensured 𝓤 H A inner-ended (inner-clauses 𝓤) (κ, (κv, tt)) (x, (c, (xv, tt))) tt t)))) (id⊢ 𝓤 _) $
+              await ! tt $ pick ! (λ t.
               split ! $
               move ! (1 ∷ []) $
-              use1 W (some (λ (ws : List (R .Denot) × (Unit {0} × Unit {0})).
-              ‵ (lasts inner-ended (κ, (κv, tt)) (x, (xv, tt)) ws) ⊛ raw (fact 𝓤 (InnerSaid ys vs t (ws .0)))))
+              use1 W (some (λ (ws : List (R .Denot) × (Unit {0} × (Unit {0} × Unit {0}))).
+              ‵ (lasts inner-ended (κ, (κv, tt)) (x, (c, (xv, tt))) ws) ⊛ raw (fact 𝓤 (InnerSaid ys c vs t (ws .0)))))
               (id⊢ 𝓤 _) $ pick ! (λ ws.
               split ! $
               move ! (1 ∷ []) $
-              heard ! (InnerSaid ys vs t (ws .0)) (λ e₁.
+              heard ! (InnerSaid ys c vs t (ws .0)) (λ e₁.
               fsplit ! $
               fsplit ! $
               move ! (1 ∷ []) $
@@ -285,16 +293,16 @@ module _ (R N G T O : Data) (E : RattleType) (𝓝 : Inside N G) (𝓗 : Inside 
               split ! $
               move ! (1 ∷ []) $
               facts ! (row T) (Is (row T)) (shows 𝓤 H A (row T)) t (mt ∷ []) (λ is-t.
-              land ! (from ! (stop !)) (init ! 12 refl (𝓑 .t-plain .typed 𝓤 H A W t mt is-t)) $
-              rewrite ! 12 (λ (u : Val). ‵ (fat fullShare (T .ty) l₄ 0 u))
+              land ! (from ! (stop !)) (init ! 14 refl (𝓑 .t-plain .typed 𝓤 H A W t mt is-t)) $
+              rewrite ! 14 (λ (u : Val). ‵ (fat fullShare (T .ty) l₄ 0 u))
               (ap only (𝓑 .t-plain .tells t (mt ∷ []) is-t)) refl $
               -- the field of the answer is kept in the input
-              move ! (12 ∷ []) $
+              move ! (14 ∷ []) $
               use1 W (‵ (fat fullShare (rawTy (T .ty)) l₄ 0 (T .val t)))
               (W .laws .at-raw fullShare (T .ty) l₄ 0 (T .val t)) $
               assigns ! (of-opd ! (load ! (from ! (fld ! (𝓗 .lies) (stop !)))
               (look-in ! 0 (field-in ! 𝓗 fullShare l₄ 0 t))))
-              (from ! (hop ! (look ! 18 refl) (fld ! (𝓝 .lies) (stop !))))
+              (from ! (hop ! (look ! 20 refl) (fld ! (𝓝 .lies) (stop !))))
               (store-in ! 4 (field-in ! 𝓝 fullShare bc oc c)
               (𝓑 .g-plain .typed 𝓤 H A W (𝓗 .get t) _ (𝓗 .has t (told-is t mt is-t)))) $
               use1 W (‵ (fat fullShare (T .ty) l₄ 0 (T .val t))) (W .laws .raw-at fullShare (T .ty) l₄ 0 (T .val t)) $
@@ -316,16 +324,16 @@ module _ (R N G T O : Data) (E : RattleType) (𝓝 : Inside N G) (𝓗 : Inside 
               use1 W (raw (fact 𝓤 (TellSaid t r))) (tell-of t r) $ heard ! (TellSaid t r) (λ e₂.
               split ! $ drop ! $
               facts ! (row O) (Is (row O)) (shows 𝓤 H A (row O)) r (mr ∷ []) (λ is-r.
-              land ! (from ! (stop !)) (init ! 18 refl (𝓑 .o-plain .typed 𝓤 H A W r mr is-r)) $
-              rewrite ! 18 (λ (u : Val). ‵ (fat fullShare (O .ty) l₀ 0 u))
+              land ! (from ! (stop !)) (init ! 20 refl (𝓑 .o-plain .typed 𝓤 H A W r mr is-r)) $
+              rewrite ! 20 (λ (u : Val). ‵ (fat fullShare (O .ty) l₀ 0 u))
               (ap only (𝓑 .o-plain .tells r (mr ∷ []) is-r)) refl $
-              returns ! (look ! 18 refl) $ forget ! 7 refl $ forget ! 9 refl $ forget ! 3 refl $ forget ! 12 refl $
-              forget ! 14 refl $ forget ! 16 refl $ forget ! 18 refl $
-              move ! (18 ∷ 19 ∷ []) $ free1 ! $ move ! (16 ∷ 17 ∷ []) $ free1 ! $ move ! (14 ∷ 15 ∷ []) $ free1 ! $
-              move ! (12 ∷ 13 ∷ []) $ free1 ! $ move ! (3 ∷ 11 ∷ []) $ free1 ! $ move ! (8 ∷ 9 ∷ []) $ free1 ! $
-              move ! (6 ∷ 7 ∷ []) $ free1 ! $ free0 ! $
+              returns ! (look ! 20 refl) $ forget ! 7 refl $ forget ! 9 refl $ forget ! 11 refl $ forget ! 3 refl $
+              forget ! 14 refl $ forget ! 16 refl $ forget ! 18 refl $ forget ! 20 refl $
+              move ! (20 ∷ 21 ∷ []) $ free1 ! $ move ! (18 ∷ 19 ∷ []) $ free1 ! $ move ! (16 ∷ 17 ∷ []) $ free1 ! $
+              move ! (14 ∷ 15 ∷ []) $ free1 ! $ move ! (3 ∷ 13 ∷ []) $ free1 ! $ move ! (10 ∷ 11 ∷ []) $ free1 ! $
+              move ! (8 ∷ 9 ∷ []) $ free1 ! $ move ! (6 ∷ 7 ∷ []) $ free1 ! $ free0 ! $
               keep ! (0 ∷ 1 ∷ 2 ∷ 3 ∷ 4 ∷ []) $
-              by ! (exits t (ws .0) r e₁ e₂ len₁ (is-val O (𝓑 .o-plain) r mr is-r)))))))))))))))))))))
+              by ! (exits t (ws .0) r e₁ e₂ len₁ (is-val O (𝓑 .o-plain) r mr is-r))))))))))))))))))))))
 
       module _ (𝓣 : Tables 𝓤 H) (known-inner : Triple 𝓤 (𝓣 .C inner-name) Inner)
           (known-tell : Triple 𝓤 (𝓣 .C tell-name) Tell) where
