@@ -20,8 +20,8 @@ use Rattle.runs.specs.Bus.{onBus, isFrameOf, isRefreshOf, sessionIn}
 use Rattle.link.specs.Runs.{Clocks, momentOf, Grant, grant, givenBy, mayTravel, Show, shown}
 
 -- ---- what is kept along the list
--- a frame of the CID that was written: by whom, when, after how many later loadings of the slave, the bytes, and the
--- value lent to the call
+-- a frame of the CID that was written: by whom, when, after how many loadings of the slave, the first not counted, the
+-- bytes, and the value lent to the call
 pub record Sent : Type 0 where
   pub slave : Bool
   pub moment : ℕ
