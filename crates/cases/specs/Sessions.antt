@@ -2,13 +2,10 @@
 use mathlib.Core.Bool.{Bool, true, false}
 use mathlib.Core.List.{List, [], _∷_, _++_}
 use Prim.Native.Nat.{ℕ, suc}
-use lib.ListN.{replicate}
 use Rattle.frame.specs.declared.Command.{Command}
 use Rattle.frame.specs.declared.Command.the-variants as K
 use Rattle.frame.specs.declared.Subconnection.{Subconnection}
 use Rattle.frame.specs.declared.Subconnection.the-variants.{Absent, Number}
-use Rattle.words.specs.Words.{wordBytes}
-use Rattle.endpoint.specs.declared.Settings.{Settings}
 use Rattle.endpoint.specs.declared.State.{State}
 use Rattle.endpoint.specs.declared.State.the-variants.{Close, Starting, EstablishPending, Establish, ParamVerify}
 use Rattle.endpoint.specs.declared.State.the-variants.{FuncRunning, RefreshPending, Refresh, Terminate}
@@ -22,11 +19,10 @@ use Rattle.transitions.specs.ByCall.{freshOf}
 use Rattle.steps.specs.Frames.{setupData, sentFields, ackFields}
 use Rattle.steps.specs.Calls.{Outcome, startOf, restartOf, sendOf, stopOf}
 use Rattle.steps.specs.Deliveries.{deliverOf}
-use Rattle.records.specs.declared.Record.{Record}
 use Rattle.gateway.specs.Tables.{blankRecord, endpointAt}
 use Rattle.gateway.specs.Loading.{loadedOf}
-use Rattle.cases.specs.Cases.{Case, row, case, listOf, masterSettings, slaveSettings, seven, endpointIn, cid, word}
-use Rattle.cases.specs.Cases.{zeroWord, stampOf, pendingOf, controlIn, calling, formOf}
+use Rattle.cases.specs.Cases.{Case, row, case, listOf, masterSettings, slaveSettings, seven, endpointIn, cid}
+use Rattle.cases.specs.Cases.{word, zeroWord, stampOf, pendingOf, controlIn, calling, formOf}
 
 -- ---- what a row asks
 -- a session number, counted from 1; 0 for none
@@ -66,6 +62,10 @@ taken control state = 0 ∷ control ∷ rowOf state ∷ 6010 ∷ 10 ∷ 0 ∷ 8 
 abbrev eight : Subconnection
 eight = Number 8
 
+-- S-Connect at a slave that was loaded with number 0
+abbrev zeroth : Outcome
+zeroth = framed (freshOf slaveSettings 0) K.Connect 10 Absent word
+
 unfoldable pub sessionsAtSlave : List Case
 sessionsAtSlave =
     -- an S-Connect request carries none; every reply carries the number
@@ -102,9 +102,8 @@ sessionsAtSlave =
     ∷ row (leaving (framed (slaveIn Establish) K.VerifyStation 5 eight word)) (stays 21 Establish)
     ∷ row (leaving (framed (slaveIn Refresh) K.Refresh 5 eight (word ++ word))) (stays 21 Refresh)
     -- number 0 is a number
-    ∷ row (leaving (framed (freshOf slaveSettings 0) K.Connect 10 Absent word))
-    (0 ∷ 0x00850000 ∷ rowOf EstablishPending ∷ 6010 ∷ 10 ∷ 0 ∷ 1 ∷ [])
-    ∷ row (leaving (framed (framed (freshOf slaveSettings 0) K.Connect 10 Absent word .endpoint) K.Disconnect 20 Absent zeroWord))
+    ∷ row (leaving zeroth) (0 ∷ 0x00850000 ∷ rowOf EstablishPending ∷ 6010 ∷ 10 ∷ 0 ∷ 1 ∷ [])
+    ∷ row (leaving (framed (zeroth .endpoint) K.Disconnect 20 Absent zeroWord))
     (21 ∷ 0 ∷ rowOf EstablishPending ∷ 6010 ∷ 10 ∷ 0 ∷ 1 ∷ [])
     -- a restart gives another, which the next reply carries; a refused one gives none
     ∷ row (leaving (restartOf (slaveIn Terminate) 8)) (0 ∷ 0 ∷ rowOf Close ∷ 6000 ∷ 5 ∷ 0 ∷ 9 ∷ [])

@@ -13,7 +13,8 @@ use Rattle.endpoint.specs.declared.Station.{Station}
 use Rattle.endpoint.specs.Endpoint.{Value, Words}
 use Rattle.endpoint.specs.Endpoint.{Endpoint}
 
-abbrev pub endpointOf : Settings → State → Subconnection → ℕ → Timestamps → Setup → Station → Words → Words → Value → Endpoint
+abbrev pub endpointOf : Settings → State → Subconnection → ℕ → Timestamps → Setup → Station → Words → Words → Value
+    → Endpoint
 endpointOf settings state session since timestamps setup station words errorinfo value = record {
   settings = settings;
   state = state;
@@ -28,11 +29,15 @@ endpointOf settings state session since timestamps setup station words errorinfo
 }
 
 abbrev pub inState : State → Endpoint → Endpoint
-inState s e = endpointOf (e .settings) s (e .session) (e .since) (e .timestamps) (e .setup) (e .station) (e .words) (e .errorinfo) (e .value)
+inState s e =
+    endpointOf (e .settings) s (e .session) (e .since) (e .timestamps) (e .setup) (e .station) (e .words) (e .errorinfo)
+    (e .value)
 
 -- its timer starts at t
 abbrev pub timedFrom : ℕ → Endpoint → Endpoint
-timedFrom t e = endpointOf (e .settings) (e .state) (e .session) t (e .timestamps) (e .setup) (e .station) (e .words) (e .errorinfo) (e .value)
+timedFrom t e =
+    endpointOf (e .settings) (e .state) (e .session) t (e .timestamps) (e .setup) (e .station) (e .words) (e .errorinfo)
+    (e .value)
 
 abbrev pub withSession : Subconnection → Endpoint → Endpoint
 withSession n e =
@@ -40,7 +45,9 @@ withSession n e =
     (e .value)
 
 abbrev pub withTimestamps : Timestamps → Endpoint → Endpoint
-withTimestamps ts e = endpointOf (e .settings) (e .state) (e .session) (e .since) ts (e .setup) (e .station) (e .words) (e .errorinfo) (e .value)
+withTimestamps ts e =
+    endpointOf (e .settings) (e .state) (e .session) (e .since) ts (e .setup) (e .station) (e .words) (e .errorinfo)
+    (e .value)
 
 -- this timestamp is remembered as the last sent, or as the last accepted
 abbrev pub withSent : ℕ → Endpoint → Endpoint
@@ -92,18 +99,22 @@ withInvoked b e =
 -- S-Data that its user has handed over
 abbrev pub withWords : Words → Endpoint → Endpoint
 withWords w e =
-    endpointOf (e .settings) (e .state) (e .session) (e .since) (e .timestamps) (e .setup) (e .station) w (e .errorinfo) (e .value)
+    endpointOf (e .settings) (e .state) (e .session) (e .since) (e .timestamps) (e .setup) (e .station) w (e .errorinfo)
+    (e .value)
 
 -- an error record that its user has handed over
 abbrev pub withErrorInfo : Words → Endpoint → Endpoint
 withErrorInfo w e =
-    endpointOf (e .settings) (e .state) (e .session) (e .since) (e .timestamps) (e .setup) (e .station) (e .words) w (e .value)
+    endpointOf (e .settings) (e .state) (e .session) (e .since) (e .timestamps) (e .setup) (e .station) (e .words) w
+    (e .value)
 
 abbrev pub holding : Value → Endpoint → Endpoint
-holding v e = endpointOf (e .settings) (e .state) (e .session) (e .since) (e .timestamps) (e .setup) (e .station) (e .words) (e .errorinfo) v
+holding v e =
+    endpointOf (e .settings) (e .state) (e .session) (e .since) (e .timestamps) (e .setup) (e .station) (e .words)
+    (e .errorinfo) v
 
 -- its user says whether the station is not ready
 abbrev pub withNotReady : Bool → Endpoint → Endpoint
 withNotReady b e =
-    endpointOf (e .settings) (e .state) (e .session) (e .since) (e .timestamps) (e .setup) (record { notready = b }) (e .words)
-    (e .errorinfo) (e .value)
+    endpointOf (e .settings) (e .state) (e .session) (e .since) (e .timestamps) (e .setup) (record { notready = b })
+    (e .words) (e .errorinfo) (e .value)

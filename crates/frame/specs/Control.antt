@@ -119,4 +119,5 @@ sessionFits f = isAbsent (f .subconnection) || (f .ack || not (is (f .command) C
 -- the form rule on fields
 unfoldable pub hasForm : Fields → Bool
 hasForm f =
-    ackFits f && (applicationFits f && (busyFits f && (errorFits f && (baselineFits f && (sequenceFits f && sessionFits f)))))
+    ackFits f && (applicationFits f && (busyFits f && (errorFits f
+    && (baselineFits f && (sequenceFits f && sessionFits f)))))
