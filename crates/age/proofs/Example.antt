@@ -123,7 +123,7 @@ line : List Event
 line =
     cycled
     ++ (exchange 8 1000 10 K.Connect 0
-    -- a request from before, with number 7: refused by 21
+    -- a request from before, with number 7: no reply to it is among the frames written
     ++ ((at-slave 1013 (deliver (request 7 5 K.ConfirmNetwork 0 (data-of K.ConfirmNetwork))) ∷ [])
     ++ (exchange 8 1000 20 K.ConfirmNetwork 0
     ++ (exchange 8 1000 30 K.VerifyStation 0

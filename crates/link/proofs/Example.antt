@@ -1,7 +1,7 @@
 -- The theorem's premises can be met, over loadings of the slave too: a line starts, its station at times not ready,
 -- performs a command, refreshes both ways and shows both values; its slave is loaded again while frames travel, with a
--- wrong interval at first, takes an old S-Connect request, starts again under another session number, refuses an old
--- S-Refresh, and shows both values once more. All of it is computed.
+-- wrong interval at first, takes an old S-Connect request, starts again under another session number, is handed an old
+-- S-Refresh, and both values are shown once more. All of it is computed.
 use mathlib.Core.Path.{_≡_, refl, ap}
 use mathlib.Core.Bool.{Bool, true, false, cond}
 use mathlib.Core.List.{List, [], _∷_, _++_}
