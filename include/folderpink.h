@@ -59,8 +59,8 @@ extern "C" {
 #define FOLDERPINK_CONNECTIONS_MAX 64
 #define FOLDERPINK_CONNECTION_WORDS 7
 
-/* The highest clock reading, in ticks of 128 us: 2^48 - 65,537. */
-#define FOLDERPINK_CLOCK_MAX UINT64_C(281474976645119)
+/* The highest clock reading, in ticks of 128 us: 2^48 - 131,073. */
+#define FOLDERPINK_CLOCK_MAX UINT64_C(281474976579583)
 
 /*
  * The bytes of stack that a call may use, its arguments and memcpy included, but not what a
@@ -71,7 +71,8 @@ extern "C" {
 
 /*
  * The answers. Where several apply, the first in this order is given: 1; 2 for too few records;
- * then all timers are tested (the clock step); 2 for an output that is too short; 3, or 4 to 8; 9;
+ * then all timers are tested (the clock step, which also drops measurements of the clocks whose
+ * next step is late); 2 for an output that is too short; 3, or 4 to 8; 9;
  * 10 and so on, 21 and 20 before 12 and 19 after it. A loading knows 18 and 2 only.
  *
  * From 9 on, 18 apart, and with 0 (load and a delivery of 0 bytes apart) the connection is named.
@@ -107,15 +108,19 @@ enum folderpink_number {
     /*
      * form: Cmd unlisted; Ack, Error or Application not allowed with this Cmd; Busy outside a
      * reply to S-InitConfirmNetPrm, S-InitVerifyStnPrm, S-InvokeFunc or S-RefreshReady; OBL not 0
-     * outside an S-RefreshGO request; Sub CID active in an S-Connect request; Sub CID not 0 where
-     * it is not active; another bit of CTRL, or RSV, not 0.
+     * outside an S-RefreshGO request; Offset op seq outside S-RefreshMO and S-RefreshGO; Sub CID
+     * active in an S-Connect request; Sub CID not 0 where it is not active; another bit of CTRL, or
+     * RSV, not 0.
      */
     FOLDERPINK_FORM = 7,
 
     /* stranger: the frame's CID is none of the table. */
     FOLDERPINK_STRANGER = 8,
 
-    /* expired: this call's clock step ended the connection, and the call is no show. */
+    /*
+     * expired: this call's clock step ended the connection, as its timer has expired, or as a
+     * slave's ts_offset is over 30,000 ticks old in Refresh; and the call is no show.
+     */
     FOLDERPINK_EXPIRED = 9,
 
     /* echo: the frame is one's own. */
@@ -130,7 +135,10 @@ enum folderpink_number {
     /* width: a value, a command, a result or S-Data of the wrong length. */
     FOLDERPINK_WIDTH = 12,
 
-    /* repeat: the timestamp is not above the last accepted, or a reply's not the pending one. */
+    /*
+     * repeat: the timestamp is not above the last accepted, or a reply's not the pending one; an
+     * S-RefreshGO, or a reply in Refresh, of another measurement than the one under way.
+     */
     FOLDERPINK_REPEAT = 13,
 
     /* ahead: an S-Refresh is ahead by more than is allowed. */
@@ -183,42 +191,46 @@ enum folderpink_state {
  * set.
  */
 struct folderpink_stored {
-    uint64_t since; /* the clock reading where the timer starts */
+    uint64_t since;     /* the clock reading where the timer starts */
+    uint64_t reference; /* at a slave the s2 that ts_offset was reckoned with; at a master the clock
+                           reading of its last S-RefreshMO, or of entry into Refresh */
 
-    /* The settings, and the state among them. */
+    /* The settings, with the state and two flags among them. */
     uint32_t interval;   /* I, in ticks, as R and A */
     uint32_t roundtrip;  /* R */
     uint32_t connection; /* the CID */
-    uint32_t age;        /* A */
-    uint32_t station;    /* the station word */
     uint8_t state;       /* one of folderpink_state */
     uint8_t slave;       /* a flag: the role */
+    uint8_t hasasked;    /* a flag: a master's request waits for its reply */
+    uint8_t answered;    /* a flag: a measurement in Refresh was answered, and is not closed */
+    uint64_t asked;      /* the timestamp of the request that waits, where hasasked is set */
+    uint64_t measured;   /* s2 at a slave, m2 at a master */
+    uint32_t age;        /* A */
+    uint32_t station;    /* the station word */
     uint8_t masterwords; /* M */
     uint8_t slavewords;  /* S */
 
-    uint64_t sent;     /* the timestamp last sent, where hassent is set */
-    uint64_t accepted; /* the timestamp last accepted, where hasaccepted is set */
-    uint64_t asked;    /* that of a master's request that waits for its reply, if hasasked is set */
-    uint64_t measured; /* s2 at a slave, m2 at a master */
-    uint64_t offset;   /* ts_offset at a slave */
-    uint64_t valueage; /* how old the value was when it was accepted, in ticks; 0 where none was */
     uint8_t hassent;
     uint8_t hasaccepted;
-    uint8_t hasasked;
-    uint8_t requests;  /* setup requests written since the last start or loading */
-    uint8_t queue;     /* a master's: 0 nothing waits; 1 S-InvokeFunc, 2 S-ReadErrorInfo,
-                          3 S-WriteErrorInfo waits; else it is closed: S-RefreshReady has gone
-                          since the last start */
-    uint8_t invoked;   /* a flag, a master's: S-InvokeFunc has gone since the last start */
-    uint8_t notready;  /* a flag: what set_not_ready set */
-    uint8_t words;     /* how many words were handed over: a slave's result, 0 for none; a master's
-                          command, where one waits */
-    uint8_t errorinfo; /* how many words of an error record were handed over: a slave's, 0 for
-                          none; a master's, where S-WriteErrorInfo waits */
-    uint8_t taken;     /* a flag: a value was accepted in this Refresh */
-    uint16_t session;  /* the session number, where hassession is set: a slave's as it was given, a
-                          master's as the S-Connect reply had it */
+    uint8_t requests;   /* setup requests written since the last start or loading */
+    uint8_t queue;      /* a master's: 0 nothing waits; 1 S-InvokeFunc, 2 S-ReadErrorInfo,
+                           3 S-WriteErrorInfo waits; else it is closed: S-RefreshReady has gone
+                           since the last start */
+    uint8_t invoked;    /* a flag, a master's: S-InvokeFunc has gone since the last start */
+    uint8_t notready;   /* a flag: what set_not_ready set */
+    uint64_t sent;      /* the timestamp last sent, where hassent is set */
+    uint64_t accepted;  /* the timestamp last accepted, where hasaccepted is set */
+    uint64_t offset;    /* ts_offset at a slave */
+    uint64_t valueage;  /* how old the value was when it was accepted, in ticks; 0 where none was */
+    uint16_t session;   /* the session number, where hassession is set: a slave's as it was given, a
+                           master's as the S-Connect reply had it */
     uint8_t hassession;
+    uint8_t sequence;   /* a flag: Offset op seq of the last measurement of this Refresh */
+    uint8_t words;      /* how many words were handed over: a slave's result, 0 for none; a master's
+                           command, where one waits */
+    uint8_t errorinfo;  /* how many words of an error record were handed over: a slave's, 0 for
+                           none; a master's, where S-WriteErrorInfo waits */
+    uint8_t taken;      /* a flag: a value was accepted in this Refresh */
 };
 
 /*
@@ -388,8 +400,9 @@ struct folderpink_told folderpink_stop(struct folderpink_call *call,
  * Writes the last value accepted in this Refresh, 4 bytes a word; or, with none or outside
  * Refresh, zeros of the same width and the mark failsafe.
  *
- * The age of a value is told with it, in ticks of 128 us, and is at most A + I. At a slave it is
- * the true age or up to R above; at a master the true age or up to R below: to be sure, add R.
+ * The age of a value is told with it, in ticks of 128 us, and is at most A + I. The clocks of the
+ * two ends may drift apart by one tick in 10,000: the true age is at most 10 ticks above what a
+ * slave tells, and R + 10 above what a master tells. To be sure, add that.
  */
 struct folderpink_told folderpink_show(struct folderpink_call *call,
                                        struct folderpink_record *records, size_t records_length,
@@ -398,6 +411,12 @@ struct folderpink_told folderpink_show(struct folderpink_call *call,
 /*
  * Writes the frame to be sent: in Refresh S-Refresh with the value (4 x M bytes of a master, 4 x S
  * of a slave), before it a master's next setup request or queued command, whatever value is lent.
+ *
+ * In Refresh a master also measures the clocks: its send writes S-RefreshMO 10,000 ticks or more
+ * after the last one, or after entry into Refresh, and S-RefreshGO once that is answered, whatever
+ * value is lent: out[0] is 0xFD or 0xFE then, and the value has not gone, so send it again. A step
+ * that takes more than R ticks drops the measurement. A slave ends when its last one is over 30,000
+ * ticks old: so a master has to send every some thousand ticks, and deliver what comes back.
  */
 struct folderpink_told folderpink_send(struct folderpink_call *call,
                                        struct folderpink_record *records, size_t records_length,
@@ -437,43 +456,46 @@ uint8_t folderpink_check_frame(const uint8_t *bytes, size_t length);
 
 FOLDERPINK_LAYOUT(sizeof(size_t) == 8);
 
-FOLDERPINK_LAYOUT(sizeof(struct folderpink_stored) == 96);
+FOLDERPINK_LAYOUT(sizeof(struct folderpink_stored) == 104);
 FOLDERPINK_LAYOUT(FOLDERPINK_ALIGN(struct folderpink_stored) == 8);
 FOLDERPINK_LAYOUT(offsetof(struct folderpink_stored, since) == 0);
-FOLDERPINK_LAYOUT(offsetof(struct folderpink_stored, interval) == 8);
-FOLDERPINK_LAYOUT(offsetof(struct folderpink_stored, roundtrip) == 12);
-FOLDERPINK_LAYOUT(offsetof(struct folderpink_stored, connection) == 16);
-FOLDERPINK_LAYOUT(offsetof(struct folderpink_stored, age) == 20);
-FOLDERPINK_LAYOUT(offsetof(struct folderpink_stored, station) == 24);
+FOLDERPINK_LAYOUT(offsetof(struct folderpink_stored, reference) == 8);
+FOLDERPINK_LAYOUT(offsetof(struct folderpink_stored, interval) == 16);
+FOLDERPINK_LAYOUT(offsetof(struct folderpink_stored, roundtrip) == 20);
+FOLDERPINK_LAYOUT(offsetof(struct folderpink_stored, connection) == 24);
 FOLDERPINK_LAYOUT(offsetof(struct folderpink_stored, state) == 28);
 FOLDERPINK_LAYOUT(offsetof(struct folderpink_stored, slave) == 29);
-FOLDERPINK_LAYOUT(offsetof(struct folderpink_stored, masterwords) == 30);
-FOLDERPINK_LAYOUT(offsetof(struct folderpink_stored, slavewords) == 31);
-FOLDERPINK_LAYOUT(offsetof(struct folderpink_stored, sent) == 32);
-FOLDERPINK_LAYOUT(offsetof(struct folderpink_stored, accepted) == 40);
-FOLDERPINK_LAYOUT(offsetof(struct folderpink_stored, asked) == 48);
-FOLDERPINK_LAYOUT(offsetof(struct folderpink_stored, measured) == 56);
-FOLDERPINK_LAYOUT(offsetof(struct folderpink_stored, offset) == 64);
-FOLDERPINK_LAYOUT(offsetof(struct folderpink_stored, valueage) == 72);
-FOLDERPINK_LAYOUT(offsetof(struct folderpink_stored, hassent) == 80);
-FOLDERPINK_LAYOUT(offsetof(struct folderpink_stored, hasaccepted) == 81);
-FOLDERPINK_LAYOUT(offsetof(struct folderpink_stored, hasasked) == 82);
-FOLDERPINK_LAYOUT(offsetof(struct folderpink_stored, requests) == 83);
-FOLDERPINK_LAYOUT(offsetof(struct folderpink_stored, queue) == 84);
-FOLDERPINK_LAYOUT(offsetof(struct folderpink_stored, invoked) == 85);
-FOLDERPINK_LAYOUT(offsetof(struct folderpink_stored, notready) == 86);
-FOLDERPINK_LAYOUT(offsetof(struct folderpink_stored, words) == 87);
-FOLDERPINK_LAYOUT(offsetof(struct folderpink_stored, errorinfo) == 88);
-FOLDERPINK_LAYOUT(offsetof(struct folderpink_stored, taken) == 89);
-FOLDERPINK_LAYOUT(offsetof(struct folderpink_stored, session) == 90);
-FOLDERPINK_LAYOUT(offsetof(struct folderpink_stored, hassession) == 92);
+FOLDERPINK_LAYOUT(offsetof(struct folderpink_stored, hasasked) == 30);
+FOLDERPINK_LAYOUT(offsetof(struct folderpink_stored, answered) == 31);
+FOLDERPINK_LAYOUT(offsetof(struct folderpink_stored, asked) == 32);
+FOLDERPINK_LAYOUT(offsetof(struct folderpink_stored, measured) == 40);
+FOLDERPINK_LAYOUT(offsetof(struct folderpink_stored, age) == 48);
+FOLDERPINK_LAYOUT(offsetof(struct folderpink_stored, station) == 52);
+FOLDERPINK_LAYOUT(offsetof(struct folderpink_stored, masterwords) == 56);
+FOLDERPINK_LAYOUT(offsetof(struct folderpink_stored, slavewords) == 57);
+FOLDERPINK_LAYOUT(offsetof(struct folderpink_stored, hassent) == 58);
+FOLDERPINK_LAYOUT(offsetof(struct folderpink_stored, hasaccepted) == 59);
+FOLDERPINK_LAYOUT(offsetof(struct folderpink_stored, requests) == 60);
+FOLDERPINK_LAYOUT(offsetof(struct folderpink_stored, queue) == 61);
+FOLDERPINK_LAYOUT(offsetof(struct folderpink_stored, invoked) == 62);
+FOLDERPINK_LAYOUT(offsetof(struct folderpink_stored, notready) == 63);
+FOLDERPINK_LAYOUT(offsetof(struct folderpink_stored, sent) == 64);
+FOLDERPINK_LAYOUT(offsetof(struct folderpink_stored, accepted) == 72);
+FOLDERPINK_LAYOUT(offsetof(struct folderpink_stored, offset) == 80);
+FOLDERPINK_LAYOUT(offsetof(struct folderpink_stored, valueage) == 88);
+FOLDERPINK_LAYOUT(offsetof(struct folderpink_stored, session) == 96);
+FOLDERPINK_LAYOUT(offsetof(struct folderpink_stored, hassession) == 98);
+FOLDERPINK_LAYOUT(offsetof(struct folderpink_stored, sequence) == 99);
+FOLDERPINK_LAYOUT(offsetof(struct folderpink_stored, words) == 100);
+FOLDERPINK_LAYOUT(offsetof(struct folderpink_stored, errorinfo) == 101);
+FOLDERPINK_LAYOUT(offsetof(struct folderpink_stored, taken) == 102);
 
-FOLDERPINK_LAYOUT(sizeof(struct folderpink_record) == 352);
+FOLDERPINK_LAYOUT(sizeof(struct folderpink_record) == 360);
 FOLDERPINK_LAYOUT(FOLDERPINK_ALIGN(struct folderpink_record) == 8);
 FOLDERPINK_LAYOUT(offsetof(struct folderpink_record, stored) == 0);
-FOLDERPINK_LAYOUT(offsetof(struct folderpink_record, value) == 96);
-FOLDERPINK_LAYOUT(offsetof(struct folderpink_record, words) == 196);
-FOLDERPINK_LAYOUT(offsetof(struct folderpink_record, errorinfo) == 296);
+FOLDERPINK_LAYOUT(offsetof(struct folderpink_record, value) == 104);
+FOLDERPINK_LAYOUT(offsetof(struct folderpink_record, words) == 204);
+FOLDERPINK_LAYOUT(offsetof(struct folderpink_record, errorinfo) == 304);
 
 FOLDERPINK_LAYOUT(sizeof(struct folderpink_gateway) == 16);
 FOLDERPINK_LAYOUT(FOLDERPINK_ALIGN(struct folderpink_gateway) == 8);

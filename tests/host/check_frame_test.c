@@ -40,6 +40,7 @@ _Static_assert(FOLDERPINK_FRAME_MAX == 248, "longest frame");
 
 #define CONNECT_REQUEST 0x00000000u
 #define GO_REQUEST 0xFE000000u
+#define GO_REQUEST_OF_SEQUENCE_1 0xFE100000u
 
 #define COUNT_OF(array) (sizeof(array) / sizeof((array)[0]))
 
@@ -56,7 +57,11 @@ static const uint32_t legal_ctrl[] = {
     0xFA000000u, 0xFA840000u, 0xFAA40000u, /* S-ReadErrorInfo */
     0xFB000000u, 0xFB840000u, 0xFBA40000u, /* S-WriteErrorInfo */
     0xFC000000u, 0xFC840000u, 0xFCA40000u, /* S-RefreshReady */
+    0xFD000000u, 0xFD840000u, 0xFDA40000u, /* S-RefreshMO */
+    0xFD100000u, 0xFD940000u, 0xFDB40000u, /* the same with Offset op seq */
     GO_REQUEST,  0xFE840000u, 0xFEA40000u, /* S-RefreshGO */
+    GO_REQUEST_OF_SEQUENCE_1,              /* the same with Offset op seq */
+    0xFE940000u, 0xFEB40000u,
     0x01C40000u, 0x01E40000u,              /* replies with Busy, without Error and with it */
     0x02C40000u, 0x02E40000u,
     0x03C40000u, 0x03E40000u,
@@ -268,7 +273,9 @@ static bool is_legal_ctrl(uint32_t ctrl)
 
 static bool may_have_obl(uint32_t ctrl)
 {
-    return without_session(ctrl) == GO_REQUEST;
+    const uint32_t rest = without_session(ctrl);
+
+    return rest == GO_REQUEST || rest == GO_REQUEST_OF_SEQUENCE_1;
 }
 
 static uint32_t legal_obl(uint32_t ctrl)
@@ -448,6 +455,32 @@ static const struct {
     {{0xF901FFFFu, 0x01020103u, 0x03E80000u, 0, 0, 0, 0xFBDA0B32u}, 0},
     /* S-RefreshReady request in session 7 with the reserved bit */
     {{0xFC030007u, 0x01020103u, 0x03E80000u, 0, 0, 0, 0x4D2F4892u}, 7},
+    /* S-RefreshMO request */
+    {{0xFD000000u, 0x01020103u, 0x27150000u, 0, 0, 0, 0x7E0E747Du}, 0},
+    /* the same with Offset op seq, in session 7 */
+    {{0xFD110007u, 0x01020103u, 0x27150000u, 0, 0, 0, 0x6C50B691u}, 0},
+    /* its reply */
+    {{0xFD950007u, 0x01020103u, 0x27150000u, 0, 0, 0, 0x90F9F7DAu}, 0},
+    /* the same with Error */
+    {{0xFDB50007u, 0x01020103u, 0x27150000u, 0, 0, 0, 0x198D7174u}, 0},
+    /* the same with Busy */
+    {{0xFDD50007u, 0x01020103u, 0x27150000u, 0, 0, 0, 0x87FC8C77u}, 7},
+    /* the same without Application */
+    {{0xFD910007u, 0x01020103u, 0x27150000u, 0, 0, 0, 0x425A41CBu}, 7},
+    /* S-RefreshMO request with MO busy */
+    {{0xFD190007u, 0x01020103u, 0x27150000u, 0, 0, 0, 0xCCFBAC42u}, 7},
+    /* S-RefreshMO request with OBL 3 */
+    {{0xFD110007u, 0x01020103u, 0x27150003u, 0, 0, 0, 0x3D26FE3Eu}, 7},
+    /* S-RefreshGO request with Offset op seq and OBL 3 */
+    {{0xFE110007u, 0x01020103u, 0x274A0003u, 0, 0, 0, 0x046C31AFu}, 0},
+    /* its reply */
+    {{0xFE950007u, 0x01020103u, 0x274A0000u, 0, 0, 0, 0xA9B3384Bu}, 0},
+    /* S-RefreshReady request with Offset op seq */
+    {{0xFC110007u, 0x01020103u, 0x03E80000u, 0, 0, 0, 0xE232EBB5u}, 7},
+    /* its reply with Offset op seq */
+    {{0xFC950007u, 0x01020103u, 0x03E80000u, 0, 0, 0, 0x1E9BAAFEu}, 7},
+    /* S-Refresh of the slave with Offset op seq */
+    {{0xFF150007u, 0x01020103u, 0x00040000u, 1, 0, 42, 0x8A590592u}, 7},
     /* Cmd 0x04 */
     {{0x04000000u, 0x01020103u, 0x03E80000u, 0, 0, 0, 0x9CC3EE72u}, 7},
 };
@@ -529,6 +562,8 @@ static void test_every_obl(void)
         const uint32_t ctrl = random_legal_ctrl();
 
         make_frame(frame, sizeof frame, GO_REQUEST, obl, 0);
+        compare(frame, sizeof frame, FOLDERPINK_DONE);
+        make_frame(frame, sizeof frame, GO_REQUEST_OF_SEQUENCE_1, obl, 0);
         compare(frame, sizeof frame, FOLDERPINK_DONE);
         make_frame(frame, sizeof frame, ctrl, obl, 0);
         compare(frame, sizeof frame, may_have_obl(ctrl) ? FOLDERPINK_DONE : FOLDERPINK_FORM);

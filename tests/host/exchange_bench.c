@@ -25,7 +25,8 @@
 
 #define ROUNDS 400
 #define EXCHANGES_PER_ROUND 1920
-#define EXCHANGES_TESTED 640
+/* Of 4 ticks each: longer than an offset of the clocks serves, so that each is measured anew. */
+#define EXCHANGES_TESTED 9600
 
 #define SESSION_NUMBER 7
 
@@ -258,7 +259,10 @@ INLINE void count_shown(struct line *line, struct answer answer)
                 get_word(line->output + 96) + answer.age;
 }
 
-/* One exchange: the master sends, the slave takes and shows; then the other way. */
+/*
+ * One exchange: the master sends, the slave takes and shows; then the other way. Where the master
+ * measures the clocks in place of sending its value, it gets the slave's reply.
+ */
 INLINE void exchange(const struct library *library, struct line *line, size_t n)
 {
     struct answer answer;
@@ -267,7 +271,10 @@ INLINE void exchange(const struct library *library, struct line *line, size_t n)
     put_word(line->value, (uint32_t)now);
     answer = library->send(MASTER, now, n, line->value, line->width, line->frame);
     now = at_slave(line->clock + 1);
-    library->deliver(SLAVE, now, line->frame, answer.count, line->output);
+    answer = library->deliver(SLAVE, now, line->frame, answer.count, line->output);
+    if (answer.count > 0) {
+        library->deliver(MASTER, line->clock + 2, line->output, answer.count, line->frame);
+    }
     count_shown(line, library->show(SLAVE, now, n, line->output));
 
     now = at_slave(line->clock + 2);

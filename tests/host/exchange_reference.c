@@ -15,6 +15,11 @@
 #define SETUP_DATA_MAX 16
 #define REQUESTS_MAX 45
 
+/* In ticks: when a master measures again, how long an offset serves, how far ahead drift leads. */
+#define MEASUREMENT_INTERVAL 10000u
+#define OFFSET_LIFE 30000u
+#define DRIFT_MAX 3u
+
 #define STAMP_SPAN ((uint64_t)1 << 48)
 #define STAMP_HALF ((uint64_t)1 << 47)
 
@@ -54,14 +59,37 @@ static bool is_setup(enum folderpink_state state)
     return state > FOLDERPINK_CLOSE && state < FOLDERPINK_REFRESH;
 }
 
+static uint64_t ticks_since(uint64_t start, uint64_t clock)
+{
+    return clock < start ? 0 : clock - start;
+}
+
+/* The timer has expired, or a slave's offset is too old. */
 static bool is_expired(const struct reference_record *record, uint64_t clock)
 {
-    const uint64_t passed = clock < record->since ? 0 : clock - record->since;
+    const uint64_t passed = ticks_since(record->since, clock);
 
     if (record->state == FOLDERPINK_REFRESH) {
-        return passed > record->interval;
+        return passed > record->interval ||
+               (record->slave && ticks_since(record->reference, clock) > OFFSET_LIFE);
     }
     return is_setup(record->state) && passed > record->round_trip;
+}
+
+/* A measurement in Refresh whose next step is late. */
+static bool is_stale(const struct reference_record *record, uint64_t clock)
+{
+    if (record->state != FOLDERPINK_REFRESH || (!record->pending.known && !record->answered)) {
+        return false;
+    }
+    return ticks_since(record->pending.known ? record->pending.at : record->measured, clock) >
+           record->round_trip;
+}
+
+static void drop_measurement(struct reference_record *record)
+{
+    record->pending.known = false;
+    record->answered = false;
 }
 
 static void end(struct reference_record *record)
@@ -76,16 +104,20 @@ static bool is_reading(const struct reference_gateway *gateway, uint64_t clock)
     return clock <= FOLDERPINK_CLOCK_MAX && (!gateway->last.known || gateway->last.at <= clock);
 }
 
-/* Ends every connection whose timer has expired; the bit of each such entry is set. */
+/* Ends every connection that has expired, the bit of each such entry is set; drops measurements. */
 static uint64_t clock_step(struct reference_gateway *gateway, uint64_t clock)
 {
     uint64_t ended = 0;
 
     gateway->last = at(clock);
     for (size_t i = 0; i < gateway->count; i++) {
-        if (is_expired(&gateway->records[i], clock)) {
-            end(&gateway->records[i]);
+        struct reference_record *record = &gateway->records[i];
+
+        if (is_expired(record, clock)) {
+            end(record);
             ended |= (uint64_t)1 << i;
+        } else if (is_stale(record, clock)) {
+            drop_measurement(record);
         }
     }
     return ended;
@@ -129,6 +161,11 @@ static uint32_t session_of(const struct fields *fields)
     return fields->ctrl & SESSION;
 }
 
+static bool has_sequence(const struct fields *fields)
+{
+    return (fields->ctrl & OFFSET_OP_SEQ) != 0;
+}
+
 static struct fields read_fields(const uint8_t *frame)
 {
     const uint32_t time = get_word(frame + AT_TCODE_OBL);
@@ -141,12 +178,15 @@ static struct fields read_fields(const uint8_t *frame)
     };
 }
 
-/* ---- Setup ---- */
+/* ---- Setup, and measurements of the clocks in Refresh ---- */
 
-/* The command that leads out of each setup state; a slave's Close stands for Starting. */
-static uint32_t command_due(enum folderpink_state state)
+/*
+ * The command that leads out of each setup state; a slave's Close stands for Starting. In Refresh
+ * a measurement's next.
+ */
+static uint32_t command_due(const struct reference_record *record)
 {
-    switch (state) {
+    switch (record->state) {
     case FOLDERPINK_ESTABLISH_PENDING:
         return S_INIT_CONFIRM_NET_PRM;
     case FOLDERPINK_ESTABLISH:
@@ -155,6 +195,8 @@ static uint32_t command_due(enum folderpink_state state)
         return S_REFRESH_READY;
     case FOLDERPINK_REFRESH_PENDING:
         return S_REFRESH_GO;
+    case FOLDERPINK_REFRESH:
+        return record->answered ? S_REFRESH_GO : S_REFRESH_MO;
     default:
         return S_CONNECT;
     }
@@ -178,18 +220,44 @@ static enum folderpink_state state_after(uint32_t command)
     }
 }
 
-static bool takes(enum folderpink_state state, uint32_t command)
+static bool is_measurement(uint32_t command)
 {
+    return command == S_REFRESH_MO || command == S_REFRESH_GO;
+}
+
+static bool takes(const struct reference_record *record, uint32_t command)
+{
+    const enum folderpink_state state = record->state;
+
     if (command == S_DISCONNECT) {
         return state != FOLDERPINK_CLOSE && state != FOLDERPINK_TERMINATE;
     }
     if (command == S_CONNECT) {
         return state == FOLDERPINK_CLOSE || state == FOLDERPINK_ESTABLISH_PENDING;
     }
-    return is_setup(state) && command == command_due(state);
+    if (state == FOLDERPINK_REFRESH) {
+        return is_measurement(command);
+    }
+    return is_setup(state) && command == command_due(record);
 }
 
-/* The data of a setup request; returns its length. */
+/* Offset op seq of the measurement under way: setup's has none. */
+static bool sequence_of(const struct reference_record *record)
+{
+    return record->state == FOLDERPINK_REFRESH && record->sequence;
+}
+
+/* S-RefreshGO closes the measurement under way, and no other. */
+static bool is_stray(const struct reference_record *record, const struct fields *fields)
+{
+    if (fields->ctrl >> 24 != S_REFRESH_GO) {
+        return false;
+    }
+    return (record->state == FOLDERPINK_REFRESH && !record->answered) ||
+           has_sequence(fields) != sequence_of(record);
+}
+
+/* The data of a request; returns its length. */
 static size_t setup_data(const struct reference_record *record, uint32_t command, uint8_t *data)
 {
     switch (command) {
@@ -214,9 +282,9 @@ static size_t setup_data(const struct reference_record *record, uint32_t command
 static size_t send_request(struct reference_record *record, uint64_t clock, uint64_t stamp,
                            uint8_t *out)
 {
-    const uint32_t command = command_due(record->state);
+    const uint32_t command = command_due(record);
     const bool go = command == S_REFRESH_GO;
-    const struct fields fields = {
+    struct fields fields = {
         .ctrl = command << 24 | (command == S_CONNECT ? 0 : record->session),
         .cid = record->cid,
         .stamp = stamp,
@@ -225,10 +293,17 @@ static size_t send_request(struct reference_record *record, uint64_t clock, uint
     uint8_t data[SETUP_DATA_MAX];
     const size_t length = setup_data(record, command, data);
 
-    record->since = clock;
+    if (command == S_REFRESH_MO) {
+        record->sequence = !record->sequence;
+        record->reference = clock;
+    }
+    if (record->state != FOLDERPINK_REFRESH) {
+        record->since = clock;
+        record->requests++;
+    }
     record->sent = at(stamp);
     record->pending = at(stamp);
-    record->requests++;
+    fields.ctrl |= sequence_of(record) ? OFFSET_OP_SEQ : 0;
     return write_frame(out, &fields, data, length);
 }
 
@@ -239,7 +314,8 @@ static struct reference_called take_request(struct reference_record *record, int
 {
     const uint32_t command = fields->ctrl >> 24;
     struct fields reply = {
-        .ctrl = command << 24 | ACK | APPLICATION | record->session,
+        .ctrl = command << 24 | ACK | APPLICATION | record->session |
+                (fields->ctrl & OFFSET_OP_SEQ),
         .cid = record->cid,
         .stamp = fields->stamp,
         .obl = 0,
@@ -247,7 +323,7 @@ static struct reference_called take_request(struct reference_record *record, int
     uint8_t due[SETUP_DATA_MAX];
     const size_t due_length = setup_data(record, command, due);
 
-    if (!takes(record->state, command)) {
+    if (!takes(record, command)) {
         return gives(FOLDERPINK_TURN, entry, 0);
     }
     if (command != S_CONNECT && session_of(fields) != record->session) {
@@ -256,7 +332,7 @@ static struct reference_called take_request(struct reference_record *record, int
     if (length != due_length) {
         return gives(FOLDERPINK_WIDTH, entry, 0);
     }
-    if (!is_above(record->accepted, fields->stamp)) {
+    if (!is_above(record->accepted, fields->stamp) || is_stray(record, fields)) {
         return gives(FOLDERPINK_REPEAT, entry, 0);
     }
     record->accepted = at(fields->stamp);
@@ -269,16 +345,21 @@ static struct reference_called take_request(struct reference_record *record, int
         reply.ctrl |= ERROR;
         return gives(FOLDERPINK_UNEQUAL, entry, write_frame(out, &reply, data, length));
     }
-    if (command == S_REFRESH_READY) {
+    if (command == S_REFRESH_READY || command == S_REFRESH_MO) {
         record->measured = clock;
     }
     if (command == S_REFRESH_GO) {
         record->offset = (fields->stamp - fields->obl - record->measured) % STAMP_SPAN;
+        record->reference = record->measured;
     }
-    record->state = state_after(command);
-    record->since = clock;
-    record->taken = false;
-    memset(record->value, 0, FOLDERPINK_VALUE_MAX);
+    record->answered = command == S_REFRESH_MO;
+    record->sequence = has_sequence(fields);
+    if (record->state != FOLDERPINK_REFRESH) {
+        record->state = state_after(command);
+        record->since = clock;
+        record->taken = false;
+        memset(record->value, 0, FOLDERPINK_VALUE_MAX);
+    }
     return gives(FOLDERPINK_DONE, entry, write_frame(out, &reply, data, length));
 }
 
@@ -291,17 +372,33 @@ static bool is_session(const struct reference_record *record, const struct field
     return session_of(fields) == record->session;
 }
 
+/* In setup the reply to the pending request, in Refresh a measurement's. */
+static bool hears(const struct reference_record *record, uint32_t command)
+{
+    if (record->state == FOLDERPINK_REFRESH) {
+        return is_measurement(command);
+    }
+    return is_setup(record->state) && record->pending.known && command == command_due(record);
+}
+
+/* The reply that is awaited: of the measurement under way, and of its last step. */
+static bool is_awaited(const struct reference_record *record, const struct fields *fields)
+{
+    return record->pending.known && record->pending.at == fields->stamp &&
+           command_due(record) == fields->ctrl >> 24 &&
+           sequence_of(record) == has_sequence(fields);
+}
+
 /* A reply at a master. */
 static struct reference_called take_reply(struct reference_record *record, int entry,
                                           uint64_t clock, const struct fields *fields,
                                           const uint8_t *data, size_t length)
 {
-    const uint32_t command = command_due(record->state);
+    const uint32_t command = fields->ctrl >> 24;
     uint8_t due[SETUP_DATA_MAX];
     const size_t due_length = setup_data(record, command, due);
 
-    if (!is_setup(record->state) || !(fields->ctrl & ACK) || !record->pending.known ||
-        fields->ctrl >> 24 != command) {
+    if (!(fields->ctrl & ACK) || !hears(record, command)) {
         return gives(FOLDERPINK_TURN, entry, 0);
     }
     if (!is_session(record, fields)) {
@@ -310,20 +407,25 @@ static struct reference_called take_reply(struct reference_record *record, int e
     if (length != due_length) {
         return gives(FOLDERPINK_WIDTH, entry, 0);
     }
-    if (fields->stamp != record->pending.at) {
+    if (!is_awaited(record, fields)) {
         return gives(FOLDERPINK_REPEAT, entry, 0);
     }
     if ((fields->ctrl & ERROR) || memcmp(data, due, length) != 0) {
         end(record);
         return gives(FOLDERPINK_UNEQUAL, entry, 0);
     }
-    if (command == S_REFRESH_READY) {
+    if (command == S_REFRESH_READY || command == S_REFRESH_MO) {
         record->measured = clock;
     }
-    record->session = session_of(fields);
-    record->state = state_after(command);
-    record->since = clock;
+    record->answered = command == S_REFRESH_MO;
     record->pending.known = false;
+    if (record->state != FOLDERPINK_REFRESH) {
+        record->session = session_of(fields);
+        record->state = state_after(command);
+        record->since = clock;
+        record->sequence = false;
+        record->reference = clock;
+    }
     return gives(FOLDERPINK_DONE, entry, 0);
 }
 
@@ -337,6 +439,15 @@ static size_t send_width(const struct reference_record *record)
 static size_t show_width(const struct reference_record *record)
 {
     return 4u * (record->slave ? record->master_words : record->slave_words);
+}
+
+/* A master's measurement goes first: S-RefreshGO when it is due, S-RefreshMO in its time. */
+static bool is_value_due(const struct reference_record *record, uint64_t clock)
+{
+    if (record->slave || record->pending.known) {
+        return true;
+    }
+    return !record->answered && ticks_since(record->reference, clock) < MEASUREMENT_INTERVAL;
 }
 
 static size_t send_refresh(struct reference_record *record, uint64_t stamp, const uint8_t *value,
@@ -360,7 +471,7 @@ static struct reference_called take_refresh(struct reference_record *record, int
     const uint64_t stamp = fields->stamp;
     const uint64_t age = (master_time(record, clock) - stamp) % STAMP_SPAN;
     const uint64_t counted = age >= STAMP_HALF ? 0 : age;
-    const uint32_t allowance = record->slave ? 0 : record->round_trip;
+    const uint32_t allowance = (record->slave ? 0 : record->round_trip) + DRIFT_MAX;
 
     if (record->state != FOLDERPINK_REFRESH) {
         return gives(FOLDERPINK_TURN, entry, 0);
@@ -451,6 +562,7 @@ struct reference_called reference_send(struct reference_gateway *gateway, uint64
     uint64_t ended;
     uint8_t answer;
     bool refresh;
+    bool valued;
     uint64_t stamp;
 
     answer = begin(gateway, clock, &ended);
@@ -468,10 +580,11 @@ struct reference_called reference_send(struct reference_gateway *gateway, uint64
     }
     record = &gateway->records[n];
     refresh = record->state == FOLDERPINK_REFRESH;
+    valued = refresh && is_value_due(record, clock);
     if (!refresh && (record->slave || !is_setup(record->state) || record->pending.known)) {
         return gives(FOLDERPINK_TURN, (int)n, 0);
     }
-    if (refresh && length != send_width(record)) {
+    if (valued && length != send_width(record)) {
         return gives(FOLDERPINK_WIDTH, (int)n, 0);
     }
     if (!refresh && record->requests >= REQUESTS_MAX) {
@@ -483,8 +596,8 @@ struct reference_called reference_send(struct reference_gateway *gateway, uint64
         return gives(FOLDERPINK_TOO_SOON, (int)n, 0);
     }
     return gives(FOLDERPINK_DONE, (int)n,
-                 refresh ? send_refresh(record, stamp, value, length, out)
-                         : send_request(record, clock, stamp, out));
+                 valued ? send_refresh(record, stamp, value, length, out)
+                        : send_request(record, clock, stamp, out));
 }
 
 static int find(const struct reference_gateway *gateway, uint32_t cid)

@@ -17,9 +17,11 @@ struct reference_stamp {
     uint64_t at;
 };
 
+/* What the clock step looks at stands in the first 64 bytes. */
 struct reference_record {
     uint32_t cid;
     bool slave;
+    bool answered; /* S-RefreshMO of this Refresh was answered, and its measurement is not closed */
     uint8_t master_words;
     uint8_t slave_words;
     uint32_t interval;
@@ -29,11 +31,13 @@ struct reference_record {
     enum folderpink_state state;
     uint32_t session; /* as CTRL has it: 0 without a number */
     uint64_t since;
+    uint64_t reference; /* slave: s2 of the offset in use; master: the last S-RefreshMO, or entry */
+    struct reference_stamp pending;
     struct reference_stamp sent;
     struct reference_stamp accepted;
-    struct reference_stamp pending;
-    uint64_t measured;
+    uint64_t measured; /* s2 or m2 of the measurement under way */
     uint64_t offset;
+    bool sequence; /* Offset op seq of this Refresh's last measurement */
     uint8_t requests;
     bool taken;
     uint64_t value_age;

@@ -12,7 +12,7 @@
 
 #define GENERATOR 0x1EDC6F41u
 
-#define ALWAYS_ZERO (OFFSET_OP_SEQ | MO_BUSY | RESERVED)
+#define ALWAYS_ZERO (MO_BUSY | RESERVED)
 
 static uint32_t crc_table[256];
 
@@ -72,6 +72,14 @@ static bool is_session_right(uint32_t ctrl)
     return (ctrl & SUB_CID) == 0;
 }
 
+/* Offset op seq joins S-RefreshMO and S-RefreshGO, and stands in no other frame. */
+static bool is_sequence_right(uint32_t ctrl)
+{
+    const uint32_t command = ctrl >> 24;
+
+    return (ctrl & OFFSET_OP_SEQ) == 0 || command == S_REFRESH_MO || command == S_REFRESH_GO;
+}
+
 static bool is_form_right(const uint8_t *subpdu)
 {
     const uint32_t ctrl = get_word(subpdu + AT_CTRL);
@@ -81,7 +89,10 @@ static bool is_form_right(const uint8_t *subpdu)
     const bool error = (ctrl & ERROR) != 0;
     const bool application = (ctrl & APPLICATION) != 0;
 
-    if ((ctrl & ALWAYS_ZERO) != 0 || get_word(subpdu + AT_RSV) != 0 || !is_session_right(ctrl)) {
+    if ((ctrl & ALWAYS_ZERO) != 0 || get_word(subpdu + AT_RSV) != 0) {
+        return false;
+    }
+    if (!is_session_right(ctrl) || !is_sequence_right(ctrl)) {
         return false;
     }
     if (error && !ack) {
@@ -97,6 +108,7 @@ static bool is_form_right(const uint8_t *subpdu)
     case S_CONNECT:
     case S_READ_ERROR_INFO:
     case S_WRITE_ERROR_INFO:
+    case S_REFRESH_MO:
         return application == ack && !busy && obl == 0;
     case S_INIT_CONFIRM_NET_PRM:
     case S_INIT_VERIFY_STN_PRM:

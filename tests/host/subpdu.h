@@ -23,6 +23,7 @@
 #define S_READ_ERROR_INFO 0xFAu
 #define S_WRITE_ERROR_INFO 0xFBu
 #define S_REFRESH_READY 0xFCu
+#define S_REFRESH_MO 0xFDu
 #define S_REFRESH_GO 0xFEu
 #define S_REFRESH 0xFFu
 

@@ -1,14 +1,13 @@
 -- Every call on a gateway has its match on the endpoint of the CID.
 use mathlib.Core.Path.{_≡_, refl, sym, ap, ap₂, subst, _∙_}
-use mathlib.Core.Bool.{Bool, true, false, _&&_, _||_, not, cond}
+use mathlib.Core.Bool.{Bool, true, false, _&&_, not, cond}
 use mathlib.Core.List.{List, [], _∷_, _++_}
-use Prim.Native.Nat.{ℕ, suc, _-_, _≤_, _<_}
+use Prim.Native.Nat.{ℕ, suc, _<_}
 use native.Mathlib.Omega.{arith}
-use lib.Dec.{eqb, leb}
+use lib.Dec.{eqb}
 use lib.ListN.{length}
 use lib.Seq.{slice}
-use borrow.Author.Tests.{leb-true, eqb-true, eqb-false, eq-eqb, ne-eqb}
-use mathlib.Mathlib.Data.Bool.Basic.{and-elim-left as and-left, and-elim-right as and-right, and-intro as both}
+use borrow.Author.Tests.{eqb-true, eqb-false, eq-eqb, ne-eqb}
 use Rattle.frame.specs.declared.Command.the-variants as K
 use Rattle.frame.specs.declared.Fields.{Fields}
 use Rattle.frame.specs.declared.Reading.the-variants.{Frame}
@@ -23,6 +22,7 @@ use Rattle.endpoint.specs.Time.{isExpired, heldAge, afterTick}
 use Rattle.steps.specs.Frames as W
 use Rattle.steps.specs.Calls.{Outcome, isFailSafe, shownOf, shownAge}
 use Rattle.steps.specs.Steps as S
+use Rattle.steps.specs.Laws.{Carries}
 use Rattle.steps.proofs.CallLaws.{step-laws}
 use Rattle.steps.proofs.Keeps.{bcase, Kept}
 use Rattle.records.specs.Records.{recordOf}
@@ -30,16 +30,17 @@ use Rattle.gateway.specs.Tables.{Lent, endpointAt, placeOf, isReading, clockSte
 use Rattle.gateway.specs.Calls.{Entry, Result, result, actedOf, shownIn, ticksIn}
 use Rattle.link.specs.Runs as L
 use Rattle.runs.specs.Steps.{Call, act, send, deliver, show, callIn}
-use Rattle.runs.specs.Bus.{onBus, isOf, sessionOf, isRefreshIn, isFrameOf, isRefreshOf}
-use Rattle.runs.proofs.Tables.{Whole, Like, like-at, like-whole, tick-keeps, like-tick, ticked-at, placed-there}
-use Rattle.runs.proofs.Tables.{place-like, place-has}
+use Rattle.runs.specs.Bus.{onBus, isRefreshIn, isFrameOf, isRefreshOf}
+use Rattle.runs.proofs.Tables.{Whole, Like, like-at, like-whole, tick-keeps, like-tick, ticked-at}
+use Rattle.runs.proofs.Tables.{placed-there, place-like, place-has}
 use Rattle.runs.proofs.Loaded.{Table}
 use Rattle.runs.proofs.Idle.{call-expired, call-timely, tick-expired, tick-timely}
 use Rattle.runs.proofs.Reaching as A
 use Rattle.runs.proofs.Reaching.{and-false}
-use Rattle.age.specs.Runs.{sentAt, lentTo, logged, lastOf, travels, mayDeliver, givenAfter, tookBy, showsValue}
+use Rattle.age.specs.Runs.{lentTo, logged, lastOf, mayDeliver, givenAfter, tookBy, showsValue}
 use Rattle.age.specs.Runs.{settingsFor, shownBy}
-use Rattle.age.proofs.Logs.{toLog, loads-at, AllGood, no-more, last-of, WritingOf, writing-of}
+use Rattle.age.proofs.Logs.{toLog, AllGood, no-more}
+use Rattle.age.proofs.Handed.{last-place, may-too}
 use Rattle.age.proofs.OneCall.{empty, not-logged, other-frame, own-log, own-good, Matches, not-shown, idle}
 use Rattle.age.proofs.OneCall.{clocked, only-clock}
 
@@ -211,42 +212,14 @@ module _ (cid : ℕ) (slave : Bool) (m loads : ℕ) (given : List L.Grant) (numb
           (refreshes ∙ ap (λ (i : Bool). i && is (f .command) K.Refresh) (ne-eqb (f .connection) cid (no-frame ne)))
           ∙ ap (λ (i : Bool). cond i (lastOf s (toLog log)) took) (and-false b)
 
-      -- of this one it was written, and may still travel
-      module _ (q : k ≡ n) (may : mayDeliver cid given (toLog log) (deliver s) ≡ true) where
-        may-own-frame : (leb 1 (lastOf s (toLog log)) && travels given s (toLog log)) ≡ true
-        may-own-frame =
-            let own : isFrameOf cid s ≡ true = ap (isOf cid) is-frame ∙ eq-eqb (f .connection) cid (its-frame q) in
-            ap (λ (b : Bool). not b || (leb 1 (lastOf s (toLog log)) && travels given s (toLog log))) (sym own) ∙ may
-
-        was-written : 1 ≤ lastOf s (toLog log)
-        was-written = leb-true 1 (lastOf s (toLog log)) (and-left (leb 1 (lastOf s (toLog log))) _ may-own-frame)
-
-        writing : WritingOf s f (slice from to s)
-        writing = writing-of cid s log good was-written f from to is-frame
-
-        last-place : lastOf s (toLog log) ≡ L.lastOf f (slice from to s) log
-        last-place = ap (λ (x : List ℕ). lastOf x (toLog log)) (sym (writing .is))
-            ∙ last-of cid f (slice from to s) (writing .readable) log good
-
-        -- after how many loadings: the same, at the same place
-        last-loads : sentAt (toLog log) (lastOf s (toLog log) - 1) .loads
-            ≡ L.sentAt log (L.lastOf f (slice from to s) log - 1) .loads
-        last-loads = loads-at log (lastOf s (toLog log) - 1)
-            ∙ ap (λ (i : ℕ). L.sentAt log (i - 1) .loads) last-place
-
-        may-too : L.mayDeliver given log (S.deliver f (slice from to s)) ≡ true
-        may-too =
-            both (ap (leb 1) (sym last-place) ∙ and-left (leb 1 (lastOf s (toLog log))) _ may-own-frame)
-            (sym (ap₂ (L.mayTravel given) (ap sessionOf is-frame) last-loads)
-            ∙ and-right (leb 1 (lastOf s (toLog log))) _ may-own-frame)
-
-        takes-too : (a : Answer)
-            → tookBy cid (toLog log) (deliver s) (isDone a) took ≡ L.tookBy log (S.deliver f (slice from to s)) a took
-        takes-too a =
-            ap (λ (i : Bool). cond (isDone a && i) (lastOf s (toLog log)) took)
-            (refreshes ∙ ap (λ (i : Bool). i && is (f .command) K.Refresh)
-            (eq-eqb (f .connection) cid (its-frame q)))
-            ∙ ap (λ (i : ℕ). cond (isDone a && is (f .command) K.Refresh) i took) last-place
+      -- of this one it was written
+      takes-too : k ≡ n → mayDeliver cid given (toLog log) (deliver s) ≡ true → (a : Answer)
+          → tookBy cid (toLog log) (deliver s) (isDone a) took ≡ L.tookBy log (S.deliver f (slice from to s)) a took
+      takes-too q may a =
+          ap (λ (i : Bool). cond (isDone a && i) (lastOf s (toLog log)) took)
+          (refreshes ∙ ap (λ (i : Bool). i && is (f .command) K.Refresh) (eq-eqb (f .connection) cid (its-frame q)))
+          ∙ ap (λ (i : ℕ). cond (isDone a && is (f .command) K.Refresh) i took)
+          (last-place cid given log good s f from to is-frame (its-frame q) may)
 
     -- ---- a call for the connection at k, on the gateway and on the endpoint
     lent : {c : Call} {by : S.Call} {k : ℕ} → A.For d c by k → lentTo c ≡ L.lentTo by
@@ -296,7 +269,8 @@ module _ (cid : ℕ) (slave : Bool) (m loads : ℕ) (given : List L.Grant) (numb
         → L.mayDeliver given log by ≡ true
     may-own (A.acts a k) q may = refl
     may-own (A.sends k value) q may = refl
-    may-own (A.delivers s f from to k i h) q may = may-too s f from to k i h q may
+    may-own (A.delivers s f from to k i h) q may =
+        may-too cid given log good s f from to i (its-frame s f from to k i h q) may
 
     module _ (c : Call) (by : S.Call) (k : ℕ) (names : A.For d c by k)
         (is : callIn d t room c ≡ actedOf (A.does d t by k) t k d) (live : A.Live d t k) where
@@ -305,6 +279,10 @@ module _ (cid : ℕ) (slave : Bool) (m loads : ℕ) (given : List L.Grant) (numb
 
       abbrev o : Outcome
       o = A.does d t by k
+
+      -- what it writes carries the connection's CID
+      carries : Carries e (o .writes)
+      carries = step-laws .carries e t by
 
       stays : Like (callIn d t room c .lent) d
       stays = subst (λ (r : Result). Like (r .lent) d) (sym is) (A.step-like d t by k)
@@ -317,8 +295,9 @@ module _ (cid : ℕ) (slave : Bool) (m loads : ℕ) (given : List L.Grant) (numb
           (ap (λ (r : Result). endpointAt (r .lent) n) is
           ∙ placed-there (clockStep t d) k n (recordOf (o .endpoint)) (λ q. ne (sym q)) ∙ ticks)
           (ap (λ (r : Result). isFrameOf cid (onBus (r .writes))) is
-          ∙ other-frame cid e (o .writes) (step-laws .carries e t by)
-          (λ q. T .others k there ne (ap (λ (s : Settings). s .connection) (sym (like-at same k)) ∙ q)))
+          ∙ other-frame cid e (o .writes) carries
+          (λ q. T .others k there ne
+          (ap (λ (s : Settings). s .connection) (sym (like-at same k)) ∙ q)))
           (no-show names (callIn d t room c)) (took-other names ne (isDone (callIn d t room c .answer)))
           (gives-other names ne (isDone (callIn d t room c .answer))) stays
 
@@ -336,10 +315,10 @@ module _ (cid : ℕ) (slave : Bool) (m loads : ℕ) (given : List L.Grant) (numb
                 ∙ ap (endpointAt (actedOf o t k d .lent)) (sym k≡n)
                 ∙ A.step-at d t by k live ∙ sym (ap (λ (y : Outcome). y .endpoint) does);
             logs = ap (λ (r : Result). logged cid slave m loads c (r .writes)) is
-                ∙ own-log cid slave m loads c by e (o .writes) (step-laws .carries e t by) has (lent names)
+                ∙ own-log cid slave m loads c by e (o .writes) carries has (lent names)
                 ∙ sym (ap (λ (y : Outcome). toLog (L.logged slave m loads by (y .writes))) does);
             good = subst (λ (y : Outcome). AllGood cid (L.logged slave m loads by (y .writes))) (sym does)
-                (own-good cid slave m loads by e (o .writes) (step-laws .carries e t by) has);
+                (own-good cid slave m loads by e (o .writes) carries has);
             shows = not-shown cid slave m loads given d n t room log took c (callIn d t room c)
                 (no-show names (callIn d t room c)) ∙ sym (no-show-by names _);
             takes = ap (λ (r : Result). tookBy cid (toLog log) c (isDone (r .answer)) took) is

@@ -24,6 +24,7 @@ use Rattle.gateway.specs.declared.Gateway.{Gateway}
 use Rattle.gateway.specs.Tables.{Lent, endpointAt, isEntry, placeOf, isReading}
 use Rattle.gateway.specs.Calls.{Result}
 use Rattle.gateway.specs.Loading.{loadedOf}
+use Rattle.link.specs.Clocks.{Reading, momentOf}
 use Rattle.link.specs.Runs as L
 use Rattle.link.specs.Fresh as F
 use Rattle.link.proofs.AgeProof.{age-theorem}
@@ -32,8 +33,8 @@ use Rattle.runs.proofs.Tables.{Like, like-trans}
 use Rattle.runs.proofs.Loaded.{Table, loaded-table}
 use Rattle.runs.proofs.Reaching.{reach}
 use Rattle.age.specs.Runs.{Event, called, loaded, Sent, sentAt, Run, begun, lentAt, lentAfter, isAccepted}
-use Rattle.age.specs.Runs.{neverFalls, mayDeliver, tookBy, tookAt, tookAfter, settingsFor, shownBy, afterCall}
-use Rattle.age.specs.Runs.{holdsSlave, afterLoad, afterEvent, afterAll}
+use Rattle.age.specs.Runs.{isPaced, readingsAfter, neverFalls, mayDeliver, tookBy, tookAt, tookAfter, settingsFor}
+use Rattle.age.specs.Runs.{shownBy, afterCall, holdsSlave, afterLoad, afterEvent, afterAll}
 use Rattle.age.specs.Demand.{Holds, settingsIn, ItsSend, Fresh, runOf, Demand, Silence}
 use Rattle.age.proofs.Logs.{refresh-of, toSent, toLog, toLog-append, toLog-length, sent-at, AllGood, no-more}
 use Rattle.age.proofs.Logs.{good-append, good-at}
@@ -56,11 +57,12 @@ by-end P false own other true = other true
 by-end P false own other false = own
 
 -- ---- the run of the two endpoints of a CID, at their places, with the log as fields and bodies
-abbrev linkOf : Run → (Bool → ℕ) → List L.Sent → L.Link
+abbrev pub linkOf : Run → (Bool → ℕ) → List L.Sent → L.Link
 linkOf l place log = record {
   master = endpointAt (l .master) (place false);
   slave = endpointAt (l .slave) (place true);
-  clocks = l .clocks;
+  shift = l .shift;
+  readings = l .readings;
   loads = l .loads;
   given = l .given;
   log = log;
@@ -72,27 +74,27 @@ linkOf l place log = record {
 }
 
 -- the endpoint at an end
-end-of : (l : Run) (place : Bool → ℕ) (log : List L.Sent) (end : Bool)
+pub end-of : (l : Run) (place : Bool → ℕ) (log : List L.Sent) (end : Bool)
     → L.endpointAt (linkOf l place log) end ≡ endpointAt (lentAt l end) (place end)
 end-of l place log true = refl
 end-of l place log false = refl
 
 module _ (cid : ℕ) where
   -- one end's gateway, beside what it was when last loaded
-  record Side (place : ℕ) (d : Lent) : Type 0 where
-    number : ℕ
-    first : Lent
-    table : Table number first cid place
-    like : Like d first
+  pub record Side (place : ℕ) (d : Lent) : Type 0 where
+    pub number : ℕ
+    pub first : Lent
+    pub table : Table number first cid place
+    pub like : Like d first
 
   -- a run of gateways, and one of endpoints that goes along
-  record Sim (l : Run) (x : L.Link) : Type 0 where
-    place : Bool → ℕ
-    log : List L.Sent
-    sides : (end : Bool) → Side (place end) (lentAt l end)
-    logs : l .log ≡ toLog log
-    good : AllGood cid log
-    is : x ≡ linkOf l place log
+  pub record Sim (l : Run) (x : L.Link) : Type 0 where
+    pub place : Bool → ℕ
+    pub log : List L.Sent
+    pub sides : (end : Bool) → Side (place end) (lentAt l end)
+    pub logs : l .log ≡ toLog log
+    pub good : AllGood cid log
+    pub is : x ≡ linkOf l place log
 
   record Next (l : Run) (x : L.Link) : Type 0 where
     event : L.Event
@@ -115,41 +117,51 @@ module _ (cid : ℕ) where
     }
 
   -- ---- a call that is not given 1
+  abbrev readingAt : Run → Bool → ℕ → ℕ → Reading
+  readingAt l slave t other = record { tick = t; moment = momentOf (l .shift) slave t other }
+
   -- what the list's premise says of it
-  record Kept (l : Run) (slave : Bool) (t : ℕ) (c : Call) : Type 0 where
+  record Kept (l : Run) (slave : Bool) (t other : ℕ) (c : Call) : Type 0 where
     before : l .allowed ≡ true
     may : mayDeliver cid (l .given) (l .log) c ≡ true
-    later : neverFalls l (L.momentOf (l .clocks) slave t) ≡ true
+    later : neverFalls l (momentOf (l .shift) slave t other) ≡ true
+    paced : isPaced l slave (readingAt l slave t other) ≡ true
 
-  kept : (l : Run) (slave : Bool) (t : ℕ) (c : Call) (r : Result) → afterCall cid l slave t c r .allowed ≡ true
-      → Kept l slave t c
-  kept l slave t c r h =
+  kept : (l : Run) (slave : Bool) (t other : ℕ) (c : Call) (r : Result)
+      → afterCall cid l slave t other c r .allowed ≡ true → Kept l slave t other c
+  kept l slave t other c r h =
       let a = and-right (l .allowed) _ h in
+      let b = and-right (mayDeliver cid (l .given) (l .log) c) _ a in
+      let later = neverFalls l (momentOf (l .shift) slave t other) in
       record {
         before = and-left (l .allowed) _ h;
         may = and-left (mayDeliver cid (l .given) (l .log) c) _ a;
-        later = and-right (mayDeliver cid (l .given) (l .log) c) _ a;
+        later = and-left later _ b;
+        paced = and-right later _ b;
       }
 
-  abbrev after : Run → Bool → ℕ → ℕ → Call → Run
-  after l slave t room c = afterCall cid l slave t c (callIn (lentAt l slave) t room c)
+  abbrev pub after : Run → Bool → ℕ → ℕ → ℕ → Call → Run
+  after l slave t other room c = afterCall cid l slave t other c (callIn (lentAt l slave) t room c)
 
-  module _ (l : Run) (x : L.Link) (sim : Sim l x) (slave : Bool) (t room : ℕ) (c : Call)
-      (reading : isAccepted l slave t ≡ true) (h : after l slave t room c .allowed ≡ true) where
+  module _ (l : Run) (x : L.Link) (sim : Sim l x) (slave : Bool) (t other room : ℕ) (c : Call)
+      (reading : isAccepted l slave t ≡ true) (h : after l slave t other room c .allowed ≡ true) where
     abbrev r : Result
     r = callIn (lentAt l slave) t room c
 
     abbrev m : ℕ
-    m = L.momentOf (l .clocks) slave t
+    m = momentOf (l .shift) slave t other
 
-    abbrev place : Bool → ℕ
+    abbrev pub place : Bool → ℕ
     place = sim .place
 
-    abbrev x₀ : L.Link
+    abbrev pub x₀ : L.Link
     x₀ = linkOf l place (sim .log)
 
-    premise : Kept l slave t c
-    premise = kept l slave t c r h
+    premise : Kept l slave t other c
+    premise = kept l slave t other c r h
+
+    pub may-deliver : mayDeliver cid (l .given) (toLog (sim .log)) c ≡ true
+    may-deliver = ap (λ (z : List Sent). mayDeliver cid (l .given) z c) (sym (sim .logs)) ∙ premise .may
 
     match : Matches cid slave m (l .loads) (l .given) (lentAt l slave) (place slave) t room (sim .log)
         (tookAt l slave) c
@@ -158,7 +170,7 @@ module _ (cid : ℕ) where
         matches cid slave m (l .loads) (l .given) (side .number) (side .first) (place slave) (side .table)
         (lentAt l slave) (side .like) t room reading (sim .log) (sim .good) (tookAt l slave)
         (reach (lentAt l slave) t room c)
-        (ap (λ (z : List Sent). mayDeliver cid (l .given) z c) (sym (sim .logs)) ∙ premise .may)
+        may-deliver
 
     abbrev by : S.Call
     by = match .by
@@ -200,16 +212,19 @@ module _ (cid : ℕ) where
         sym (ap (λ (n : ℕ). shownBy cid slave (lentAt l slave) m (tookAt l slave) n c r)
         (ap length (sim .logs) ∙ toLog-length (sim .log)) ∙ match .shows)
 
-    still : L.afterCall x₀ slave t by o .allowed ≡ true
-    still =
-        both (premise .before)
-        (both (match .may) (both (premise .later) (reading-limit (lentAt l slave .gateway) t reading)))
+    -- a call on the endpoint keeps to what its list runs over too, where what it hands over may be
+    pub still : (k : S.Call) (y : Outcome) → L.mayDeliver (l .given) (sim .log) k ≡ true
+        → L.afterCall x₀ slave t other k y .allowed ≡ true
+    still k y may =
+        both (premise .before) (both may
+        (both (premise .later) (both (reading-limit (lentAt l slave .gateway) t reading) (premise .paced))))
 
-    link-after : L.afterCall x₀ slave t by o ≡ linkOf (after l slave t room c) place (sim .log ++ more)
+    link-after : L.afterCall x₀ slave t other by o ≡ linkOf (after l slave t other room c) place (sim .log ++ more)
     link-after = λ i. record {
       master = endpoints false i;
       slave = endpoints true i;
-      clocks = l .clocks;
+      shift = l .shift;
+      readings = readingsAfter l slave (readingAt l slave t other);
       loads = l .loads;
       given = sym (match .gives) i;
       log = sim .log ++ more;
@@ -217,22 +232,22 @@ module _ (cid : ℕ) where
       masterTook = tooks false i;
       slaveTook = tooks true i;
       latest = m;
-      allowed = (still ∙ sym h) i;
+      allowed = (still by o (match .may) ∙ sym h) i;
     }
 
-    next : Next (after l slave t room c) x
+    next : Next (after l slave t other room c) x
     next = record {
-      event = L.called slave t by;
+      event = L.called slave t other by;
       sim = record {
         place = place;
         log = sim .log ++ more;
-        sides = on-both (λ end. Side (place end) (lentAt (after l slave t room c) end)) (sides-after false)
+        sides = on-both (λ end. Side (place end) (lentAt (after l slave t other room c) end)) (sides-after false)
             (sides-after true);
         logs = ap₂ _++_ (sim .logs) (match .logs) ∙ sym (toLog-append (sim .log) more);
         good = good-append cid (sim .good) (match .good);
-        is = ap (λ (y : L.Link). L.afterEvent y (L.called slave t by)) (sim .is)
-            ∙ ap (λ (e : Endpoint). L.afterCall x₀ slave t by (S.callOf e t by)) (end-of l place (sim .log) slave)
-            ∙ link-after;
+        is = ap (λ (y : L.Link). L.afterEvent y (L.called slave t other by)) (sim .is)
+            ∙ ap (λ (e : Endpoint). L.afterCall x₀ slave t other by (S.callOf e t by))
+            (end-of l place (sim .log) slave) ∙ link-after;
       };
     }
 
@@ -253,19 +268,20 @@ module _ (cid : ℕ) where
     is-slaves : L.isSlaves (settingsFor cid dl) ≡ true
     is-slaves =
         let t = table-of holds-slave .ticks in
-        both (holds-slave .role)
-        (both (le-leb _ 65535 (t .interval)) (both (le-leb _ 65535 (t .roundtrip)) (le-leb _ 65535 (t .age))))
+        both (holds-slave .role) (both (le-leb 1 _ (t .some))
+        (both (le-leb _ 65535 (t .interval)) (both (le-leb _ 65535 (t .roundtrip)) (le-leb _ 65535 (t .age)))))
 
-    loads : (l : Run) (x : L.Link) (constant : ℕ) → Sim l x → l .allowed ≡ true
-        → Next (afterLoad cid l number (loadedOf number ws rs) constant) x
-    loads l x constant sim before =
-        let to = afterLoad cid l number (loadedOf number ws rs) constant in
+    loads : (l : Run) (x : L.Link) → Sim l x → l .allowed ≡ true
+        → Next (afterLoad cid l number (loadedOf number ws rs)) x
+    loads l x sim before =
+        let to = afterLoad cid l number (loadedOf number ws rs) in
         let place : Bool → ℕ = λ end. cond end (placeOf cid dl) (sim .place false) in
-        let link : L.afterLoad (linkOf l (sim .place) (sim .log)) (settingsFor cid dl) number constant
+        let link : L.afterLoad (linkOf l (sim .place) (sim .log)) (settingsFor cid dl) number
         ≡ linkOf to place (sim .log) = λ i. record {
           master = endpointAt (l .master) (sim .place false);
           slave = sym (table-of holds-slave .fresh) i;
-          clocks = to .clocks;
+          shift = to .shift;
+          readings = to .readings;
           loads = to .loads;
           given = to .given;
           log = sim .log;
@@ -276,21 +292,21 @@ module _ (cid : ℕ) where
           allowed = (both before is-slaves ∙ sym (both before h)) i;
         } in
         record {
-          event = L.loaded (settingsFor cid dl) number constant;
+          event = L.loaded (settingsFor cid dl) number;
           sim = record {
             place = place;
             log = sim .log;
             sides = on-both (λ end. Side (place end) (lentAt to end)) (sim .sides false) (side-of holds-slave);
             logs = sim .logs;
             good = sim .good;
-            is = ap (λ (y : L.Link). L.afterEvent y (L.loaded (settingsFor cid dl) number constant)) (sim .is) ∙ link;
+            is = ap (λ (y : L.Link). L.afterEvent y (L.loaded (settingsFor cid dl) number)) (sim .is) ∙ link;
           };
         }
 
   -- ---- a list on the two endpoints that goes along
-  record Lifted (x : L.Link) (l : Run) : Type 0 where
-    events : List L.Event
-    sim : Sim l (L.afterAll x events)
+  pub record Lifted (x : L.Link) (l : Run) : Type 0 where
+    pub events : List L.Event
+    pub sim : Sim l (L.afterAll x events)
 
   one-more : (x : L.Link) (vs : List L.Event) (v : L.Event)
       → L.afterAll x (vs ++ (v ∷ [])) ≡ L.afterEvent (L.afterAll x vs) v
@@ -298,13 +314,13 @@ module _ (cid : ℕ) where
   one-more x (u ∷ vs) v = one-more (L.afterEvent x u) vs v
 
   -- a call that is not given 1, and one that is: it changes nothing
-  counts : (l : Run) (slave : Bool) (t room : ℕ) (c : Call) → isAccepted l slave t ≡ true
-      → afterEvent cid l (called slave t room c) ≡ after l slave t room c
-  counts l slave t room c q = cond-true (isAccepted l slave t) (after l slave t room c) l q
+  pub counts : (l : Run) (slave : Bool) (t other room : ℕ) (c : Call) → isAccepted l slave t ≡ true
+      → afterEvent cid l (called slave t other room c) ≡ after l slave t other room c
+  counts l slave t other room c q = cond-true (isAccepted l slave t) (after l slave t other room c) l q
 
-  left-out : (l : Run) (slave : Bool) (t room : ℕ) (c : Call) → isAccepted l slave t ≡ false
-      → afterEvent cid l (called slave t room c) ≡ l
-  left-out l slave t room c q = cond-false (isAccepted l slave t) (after l slave t room c) l q
+  left-out : (l : Run) (slave : Bool) (t other room : ℕ) (c : Call) → isAccepted l slave t ≡ false
+      → afterEvent cid l (called slave t other room c) ≡ l
+  left-out l slave t other room c q = cond-false (isAccepted l slave t) (after l slave t other room c) l q
 
   module _ (x : L.Link) where
     lengthened : {l l′ : Run} (f : Lifted x l) → Next l′ (L.afterAll x (f .events)) → Lifted x l′
@@ -314,24 +330,25 @@ module _ (cid : ℕ) where
     }
 
     step : (l : Run) (v : Event) → Lifted x l → afterEvent cid l v .allowed ≡ true → Lifted x (afterEvent cid l v)
-    step l (called slave t room c) f h =
+    step l (called slave t other room c) f h =
         bcase (isAccepted l slave t)
         (λ q.
-        let p = counts l slave t room c q in
+        let p = counts l slave t other room c q in
         subst (Lifted x) (sym p) (lengthened f
-        (next l (L.afterAll x (f .events)) (f .sim) slave t room c q (ap (λ (r : Run). r .allowed) (sym p) ∙ h))))
-        (λ q. subst (Lifted x) (sym (left-out l slave t room c q)) f)
-    step l (loaded number ws rs constant) f h =
-        lengthened f (loads number ws rs (and-right (l .allowed) _ h) l (L.afterAll x (f .events)) constant (f .sim)
+        (next l (L.afterAll x (f .events)) (f .sim) slave t other room c q
+        (ap (λ (r : Run). r .allowed) (sym p) ∙ h))))
+        (λ q. subst (Lifted x) (sym (left-out l slave t other room c q)) f)
+    step l (loaded number ws rs) f h =
+        lengthened f (loads number ws rs (and-right (l .allowed) _ h) l (L.afterAll x (f .events)) (f .sim)
         (and-left (l .allowed) _ h))
 
-    allowed-first : (l : Run) (v : Event) → afterEvent cid l v .allowed ≡ true → l .allowed ≡ true
-    allowed-first l (called slave t room c) h =
+    pub allowed-first : (l : Run) (v : Event) → afterEvent cid l v .allowed ≡ true → l .allowed ≡ true
+    allowed-first l (called slave t other room c) h =
         bcase (isAccepted l slave t)
-        (λ q. kept l slave t c (callIn (lentAt l slave) t room c)
-        (ap (λ (r : Run). r .allowed) (sym (counts l slave t room c q)) ∙ h) .before)
-        (λ q. ap (λ (r : Run). r .allowed) (sym (left-out l slave t room c q)) ∙ h)
-    allowed-first l (loaded number ws rs constant) h = and-left (l .allowed) _ h
+        (λ q. kept l slave t other c (callIn (lentAt l slave) t room c)
+        (ap (λ (r : Run). r .allowed) (sym (counts l slave t other room c q)) ∙ h) .before)
+        (λ q. ap (λ (r : Run). r .allowed) (sym (left-out l slave t other room c q)) ∙ h)
+    allowed-first l (loaded number ws rs) h = and-left (l .allowed) _ h
 
     allowed-before : (l : Run) (vs : List Event) → afterAll cid l vs .allowed ≡ true → l .allowed ≡ true
     unfolding afterAll
@@ -361,7 +378,9 @@ module _ (cid : ℕ) where
           refresh = refresh-of cid (e .fields) (e .body) (g .readable)
               ∙ both (eq-eqb (e .fields .connection) cid (g .has)) (w .refresh);
           value = w .value;
+          bounded = w .bounded;
           aged = w .aged;
+          sharper = w .sharper;
         })
 
     fresh : Fresh cid sm ss l
@@ -380,12 +399,12 @@ no-number : (s : Settings) (a b : ℕ) → s .slave ≡ false → freshOf s a �
 no-number s a b h = rw h refl
 
 module _ (nm ns : ℕ) (wm ws : List ℕ) (rm rs : List Record) (cid : ℕ) (hm : Holds nm wm rm cid false)
-    (hs : Holds ns ws rs cid true) (clocks : L.Clocks) where
-  abbrev first : Run
-  first = begun (loadedOf nm wm rm .lent) (loadedOf ns ws rs .lent) ns clocks
+    (hs : Holds ns ws rs cid true) (shift : ℕ) where
+  abbrev pub first : Run
+  first = begun (loadedOf nm wm rm .lent) (loadedOf ns ws rs .lent) ns shift
 
-  abbrev firstLink : L.Link
-  firstLink = L.begun (settingsIn hm) (settingsIn hs) ns clocks
+  abbrev pub firstLink : L.Link
+  firstLink = L.begun (settingsIn hm) (settingsIn hs) ns shift
 
   at-first : Lifted cid firstLink first
   unfolding toLog
@@ -402,7 +421,8 @@ module _ (nm ns : ℕ) (wm ws : List ℕ) (rm rs : List Record) (cid : ℕ) (hm 
           is = λ i. record {
             master = (no-number (settingsIn hm) ns nm (hm .role) ∙ sym (table-of cid hm .fresh)) i;
             slave = sym (table-of cid hs .fresh) i;
-            clocks = clocks;
+            shift = shift;
+            readings = [];
             loads = 0;
             given = L.grant ns 0 ∷ [];
             log = [];
@@ -415,7 +435,7 @@ module _ (nm ns : ℕ) (wm ws : List ℕ) (rm rs : List Record) (cid : ℕ) (hm 
         };
       }
 
-  paired : F.Paired (settingsIn hm) (settingsIn hs)
+  pub paired : F.Paired (settingsIn hm) (settingsIn hs)
   paired = record {
     master = hm .role;
     slave = hs .role;
@@ -423,23 +443,23 @@ module _ (nm ns : ℕ) (wm ws : List ℕ) (rm rs : List Record) (cid : ℕ) (hm 
     ticksS = table-of cid hs .ticks;
   }
 
-  lifted : (vs : List Event) → runOf nm wm rm ns ws rs cid clocks vs .allowed ≡ true
-      → Fresh cid (settingsIn hm) (settingsIn hs) (runOf nm wm rm ns ws rs cid clocks vs)
-  lifted vs h =
-      let f = along cid firstLink first vs at-first h in
-      let x = L.afterAll firstLink (f .events) in
-      fresh cid (settingsIn hm) (settingsIn hs) (runOf nm wm rm ns ws rs cid clocks vs) x (f .sim)
-      (subst (F.Fresh (settingsIn hm) (settingsIn hs)) (f .sim .is)
-      (age-theorem (settingsIn hm) (settingsIn hs) ns clocks (f .events) paired
-      (ap (λ (y : L.Link). y .allowed) (f .sim .is) ∙ h)))
+  pub lifted : (vs : List Event) → afterAll cid first vs .allowed ≡ true → Lifted cid firstLink (afterAll cid first vs)
+  lifted vs h = along cid firstLink first vs at-first h
 
 pub demand : Demand
-demand nm ns wm ws rm rs cid hm hs c vs h = lifted nm ns wm ws rm rs cid hm hs c vs h
+demand nm ns wm ws rm rs cid hm hs shift vs h =
+    let f = lifted nm ns wm ws rm rs cid hm hs shift vs h in
+    let sm = settingsIn hm in
+    let ss = settingsIn hs in
+    fresh cid sm ss (runOf nm wm rm ns ws rs cid shift vs) (F.runOf sm ss ns shift (f .events)) (f .sim)
+    (subst (F.Fresh sm ss) (f .sim .is)
+    (age-theorem sm ss ns shift (f .events) (paired nm ns wm ws rm rs cid hm hs shift)
+    (ap (λ (y : L.Link). y .allowed) (f .sim .is) ∙ h)))
 
 pub silence : Silence
-silence nm ns wm ws rm rs cid hm hs c vs slave last h quiet i k e =
-    let l = runOf nm wm rm ns ws rs cid c vs in
-    let A = demand nm ns wm ws rm rs cid hm hs c vs h in
+silence nm ns wm ws rm rs cid hm hs shift vs slave last h quiet i k e =
+    let l = runOf nm wm rm ns ws rs cid shift vs in
+    let A = demand nm ns wm ws rm rs cid hm hs shift vs h in
     let y = L.showAt (l .shows) i in
     let r = A .there i k in
     let j : ℕ = y .sent - 1 in
@@ -447,5 +467,5 @@ silence nm ns wm ws rm rs cid hm hs c vs slave last h quiet i k e =
     let w = A .its-send i j k q in
     let n : j < length (l .log) = let a = r .1 in let b = r .2 in omega arith in
     let z = quiet j n (w .other ∙ ap not e) (w .refresh) in
-    let v = w .aged .young in
+    let v = w .bounded in
     omega arith

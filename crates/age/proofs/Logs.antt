@@ -63,12 +63,13 @@ sent-at [] i h = absurd (not-suc-le-zero h)
 sent-at (x ∷ l) zero h = refl
 sent-at (x ∷ l) (suc i) h = sent-at l i (le-of-suc-le-suc h)
 
--- after how many loadings it was written; past the end of the log this is 0 in both
-pub loads-at : (l : List L.Sent) (i : ℕ) → sentAt (toLog l) i .loads ≡ L.sentAt l i .loads
+-- when it was written, and after how many loadings; past the end of the log these are 0 in both
+pub when-at : (l : List L.Sent) (i : ℕ)
+    → (sentAt (toLog l) i .moment ≡ L.sentAt l i .moment) × (sentAt (toLog l) i .loads ≡ L.sentAt l i .loads)
 unfolding toLog toSent sentAt L.sentAt
-loads-at [] i = refl
-loads-at (x ∷ l) zero = refl
-loads-at (x ∷ l) (suc i) = loads-at l i
+when-at [] i = (refl, refl)
+when-at (x ∷ l) zero = (refl, refl)
+when-at (x ∷ l) (suc i) = when-at l i
 
 -- every frame in the log reads back, and is of the CID
 pub record Good (cid : ℕ) (w : L.Sent) : Type 0 where

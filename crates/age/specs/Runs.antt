@@ -1,6 +1,6 @@
--- Two gateways over a list of calls, to be read beside document 01, "What demand 3 runs over", and document 02, note 8:
--- their sentences stand here in their order, each above what says it; their devices are gateways. All is for one CID
--- that both hold.
+-- Two gateways over a list of calls, to be read beside document 01, "What demand 3 runs over", and document 02, notes 8
+-- and 9: their sentences stand here in document 01's order, each above what says it; their devices are gateways. All is
+-- for one CID that both hold.
 use mathlib.Core.Bool.{Bool, true, false, _&&_, _||_, not, cond, Bool·beq}
 use mathlib.Core.List.{List, [], _∷_, _++_}
 use mathlib.Core.Option.{Option, some, none}
@@ -17,7 +17,8 @@ use Rattle.gateway.specs.Loading.{Loaded, loadedOf}
 use Rattle.gateway.specs.Calls.{Result, ticksIn}
 use Rattle.runs.specs.Steps.{Call, act, send, deliver, show, callIn}
 use Rattle.runs.specs.Bus.{onBus, isFrameOf, isRefreshOf, sessionIn}
-use Rattle.link.specs.Runs.{Clocks, momentOf, Grant, grant, givenBy, mayTravel, Show, shown}
+use Rattle.link.specs.Clocks.{Reading, keepsPace, momentOf}
+use Rattle.link.specs.Runs.{Grant, grant, givenBy, mayTravel, Show, shown}
 
 -- ---- what is kept along the list
 -- a frame of the CID that was written: by whom, when, after how many loadings of the slave, the first not counted, the
@@ -44,8 +45,10 @@ pub record Run : Type 0 where
   -- each end's gateway and slice of records
   pub master : Lent
   pub slave : Lent
-  -- the constants of their clocks; the slave's is that of its last loading
-  pub clocks : Clocks
+  -- how far the moments of the master's calls are above their readings
+  pub shift : ℕ
+  -- the calls at the slave's gateway since its last loading, newest first
+  pub readings : List Reading
   -- how often the slave's gateway was loaded again, and the session numbers given to the slave
   pub loads : ℕ
   pub given : List Grant
@@ -63,11 +66,12 @@ pub record Run : Type 0 where
 
 -- ---- "Two devices, just loaded with answer 0, hold one common CID, one as master, the other as slave, beside
 -- whatever others." How they hold it is Holds in Demand. The slave's was loaded with a session number.
-abbrev pub begun : Lent → Lent → ℕ → Clocks → Run
-begun dm ds number clocks = record {
+abbrev pub begun : Lent → Lent → ℕ → ℕ → Run
+begun dm ds number shift = record {
   master = dm;
   slave = ds;
-  clocks = clocks;
+  shift = shift;
+  readings = [];
   loads = 0;
   given = grant number 0 ∷ [];
   log = [];
@@ -80,13 +84,13 @@ begun dm ds number clocks = record {
 
 -- ---- "The list has any calls but load on either, for whatever entry, refused ones and kinds that a later paper adds
 -- included." Note 8: "The list then holds such loadings too, answer 0": "Loading a slave, its clock begun anew, while
--- old frames travel".
--- a call at the slave's gateway or the master's, with its clock reading and the length of the output lent to it; or the
--- slave's gateway is loaded again: with a session number, a settings list and whatever slice of records, and the
--- constant of its clock from then on
+-- old frames travel". Note 9: "the list gives each call the other clock's time too, a whole number".
+-- a call at the slave's gateway or the master's, with its clock reading, the other clock's time, and the length of the
+-- output lent to it; or the slave's gateway is loaded again: with a session number, a settings list and whatever slice
+-- of records
 pub data Event : Type 0 where
-  called : (slave : Bool) (clock room : ℕ) → Call → Event
-  loaded : (number : ℕ) → List ℕ → List Record → (constant : ℕ) → Event
+  called : (slave : Bool) (clock other room : ℕ) → Call → Event
+  loaded : (number : ℕ) → List ℕ → List Record → Event
 
 -- ---- "Each call gets its device as that device's last call returned it; nobody else writes it meanwhile." Document
 -- 02, note 11: "The age promise counts on the slice being lent whole each time and as the last call left it." A run has
@@ -99,8 +103,24 @@ abbrev pub lentAfter : Bool → Run → Bool → Result → Lent
 lentAfter end l slave r = cond (Bool·beq end slave) (r .lent) (lentAt l end)
 
 -- ---- "A call's moment is its reading at the master, its reading plus D at the slave, D one whole number for the
--- list." This is momentOf in crates/link/specs/Runs.antt. Note 8: "D .. begins anew at each [loading], and moments
--- still never fall." A loading takes no reading and has no moment.
+-- list." Note 9: "It replaces D: the list gives each call the other clock's time too, a whole number, and the master's
+-- is its moment." So a call's moment is its reading at the master, the other clock's time at the slave: momentOf in
+-- crates/link/specs/Clocks.antt. To the master's readings one number is added, the same along the list, so that a
+-- slave's call before the master's 0 has its moment too.
+
+-- ---- Note 9: "From now on the premise is: over n ticks of one clock, n at least 1, the other advances by n, give or
+-- take n ÷ 10,000 rounded up." For two calls this is inPace in crates/link/specs/Clocks.antt, for a call and all before
+-- it keepsPace. The paper has it of any two calls; here it is asked of calls at the slave's only, and the other clock's
+-- time of a call at the master's is not looked at, so that more lists keep to it.
+-- a call at the slave's gateway is in pace with each before it since its loading
+abbrev pub isPaced : Run → Bool → Reading → Bool
+isPaced l slave r = cond slave (keepsPace (l .readings) r) true
+
+abbrev pub readingsAfter : Run → Bool → Reading → List Reading
+readingsAfter l slave r = cond slave (r ∷ l .readings) (l .readings)
+
+-- Note 8: "D, and any later premise on the clocks, begins anew at each [loading], and moments still never fall." A
+-- loading takes no reading and has no moment; the slave's next call has none before it to be in pace with.
 
 -- ---- "Leaving out calls given 1, moments never fall along the list, and at no call is either clock past a reading's
 -- limit."
@@ -192,14 +212,16 @@ shownBy cid slave d m took n c r =
     (shown slave (settingsFor cid d) m (bytesOf (r .writes)) (ticksIn (r .age)) took n ∷ []) []
 
 -- ---- all of it, along the list
--- a call at an end with its reading, and what it came to
-abbrev pub afterCall : ℕ → Run → Bool → ℕ → Call → Result → Run
-afterCall cid l slave t c r =
-    let m = momentOf (l .clocks) slave t in
+-- a call at an end with its reading and the other clock's time, and what it came to
+abbrev pub afterCall : ℕ → Run → Bool → ℕ → ℕ → Call → Result → Run
+afterCall cid l slave t other c r =
+    let m = momentOf (l .shift) slave t other in
+    let q : Reading = record { tick = t; moment = m } in
     record {
       master = lentAfter false l slave r;
       slave = lentAfter true l slave r;
-      clocks = l .clocks;
+      shift = l .shift;
+      readings = readingsAfter l slave q;
       loads = l .loads;
       given = givenAfter cid slave (lentAt l slave) (l .loads) c (isDone (r .answer)) (l .given);
       log = l .log ++ logged cid slave m (l .loads) c (r .writes);
@@ -207,7 +229,7 @@ afterCall cid l slave t c r =
       masterTook = tookAfter false cid l slave c r;
       slaveTook = tookAfter true cid l slave c r;
       latest = m;
-      allowed = l .allowed && (mayDeliver cid (l .given) (l .log) c && neverFalls l m);
+      allowed = l .allowed && (mayDeliver cid (l .given) (l .log) c && (neverFalls l m && isPaced l slave q));
     }
 
 -- a loading has answer 0, and its list holds the CID as slave
@@ -215,11 +237,12 @@ abbrev pub holdsSlave : ℕ → Loaded → Bool
 holdsSlave cid d =
     isDone (d .answer) && (isEntry (d .lent) (placeOf cid (d .lent)) && settingsFor cid (d .lent) .slave)
 
-abbrev pub afterLoad : ℕ → Run → ℕ → Loaded → ℕ → Run
-afterLoad cid l number d constant = record {
+abbrev pub afterLoad : ℕ → Run → ℕ → Loaded → Run
+afterLoad cid l number d = record {
   master = l .master;
   slave = d .lent;
-  clocks = record { master = l .clocks .master; slave = constant };
+  shift = l .shift;
+  readings = [];
   loads = suc (l .loads);
   given = grant number (suc (l .loads)) ∷ l .given;
   log = l .log;
@@ -232,9 +255,9 @@ afterLoad cid l number d constant = record {
 
 -- a call given 1 is left out
 abbrev pub afterEvent : ℕ → Run → Event → Run
-afterEvent cid l (called slave t room c) =
-    cond (isAccepted l slave t) (afterCall cid l slave t c (callIn (lentAt l slave) t room c)) l
-afterEvent cid l (loaded number ws rs constant) = afterLoad cid l number (loadedOf number ws rs) constant
+afterEvent cid l (called slave t other room c) =
+    cond (isAccepted l slave t) (afterCall cid l slave t other c (callIn (lentAt l slave) t room c)) l
+afterEvent cid l (loaded number ws rs) = afterLoad cid l number (loadedOf number ws rs)
 
 unfoldable pub afterAll : ℕ → Run → List Event → Run
 afterAll cid l [] = l

@@ -15,6 +15,10 @@ use Rattle.cases.specs.Cases.{commands, commandReplies, agesAtSlave, age
 use Rattle.cases.specs.ErrorRecords.{records, days, readings, writings, userRecords, queued, readReplies, writeReplies}
 use Rattle.cases.specs.ErrorRecords.{recordCases}
 use Rattle.cases.specs.Sessions.{sessionsAtSlave, sessionsAtMaster, sessionForms}
+use Rattle.cases.specs.Sessions.{sessionCases}
+use Rattle.cases.specs.Measurements.{measurements, measurementDrops, measurementReplies, measurementRequests}
+use Rattle.cases.specs.Measurements.{measurementRefusals, offsetLives, driftAllowances, measurementForms}
+use Rattle.cases.specs.Measurements.{measurementCases}
 use Rattle.cases.specs.Table.{CasesHold}
 use Rattle.errors.specs.Calendar.{daysOf, daysIn, isDate}
 use Rattle.errors.specs.Reading.{hasDigits, hasCount, isRecord, moreFollows}
@@ -143,6 +147,40 @@ unfolding Hold sessionForms controlOf hasForm hasCheckWord fieldsIn readingOfCop
     endpointAt
 session-forms-hold = refl
 
+-- ---- measurements in Refresh
+measurements-hold : Hold measurements
+unfolding Hold measurements controlOf setupData
+measurements-hold = refl
+
+drops-hold : Hold measurementDrops
+unfolding Hold measurementDrops controlOf setupData endpointAt clockStep
+drops-hold = refl
+
+measurement-replies-hold : Hold measurementReplies
+unfolding Hold measurementReplies controlOf setupData
+measurement-replies-hold = refl
+
+requests-hold : Hold measurementRequests
+unfolding Hold measurementRequests controlOf setupData
+requests-hold = refl
+
+refusals-hold : Hold measurementRefusals
+unfolding Hold measurementRefusals controlOf setupData
+refusals-hold = refl
+
+lives-hold : Hold offsetLives
+unfolding Hold offsetLives controlOf setupData endpointAt clockStep
+lives-hold = refl
+
+allowances-hold : Hold driftAllowances
+unfolding Hold driftAllowances setupData clockStep
+allowances-hold = refl
+
+measurement-forms-hold : Hold measurementForms
+unfolding Hold measurementForms controlOf hasForm hasCheckWord fieldsIn readingOfCopies readingOf headBytes withCheckWord
+    twice bitStep bitSteps byteStep crcFrom crc
+measurement-forms-hold = refl
+
 -- ---- the parts together
 both : (xs ys : List Case) → Hold xs → Hold ys → Hold (xs ++ ys)
 unfolding Hold
@@ -170,8 +208,17 @@ records-together =
     (both _ _ writings-hold
     (both _ _ user-records-hold (both _ _ queued-hold (both _ _ read-replies-hold write-replies-hold))))))
 
+sessions-together : Hold sessionCases
+sessions-together = both _ _ slave-sessions-hold (both _ _ master-sessions-hold session-forms-hold)
+
+measurements-together : Hold measurementCases
+measurements-together =
+    both _ _ measurements-hold
+    (both _ _ drops-hold
+    (both _ _ measurement-replies-hold
+    (both _ _ requests-hold
+    (both _ _ refusals-hold (both _ _ lives-hold (both _ _ allowances-hold measurement-forms-hold))))))
+
 pub cases-hold : CasesHold
 cases-hold =
-    both _ _ main-hold
-    (both _ _ records-together
-    (both _ _ slave-sessions-hold (both _ _ master-sessions-hold session-forms-hold)))
+    both _ _ main-hold (both _ _ records-together (both _ _ sessions-together measurements-together))

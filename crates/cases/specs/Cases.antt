@@ -116,7 +116,7 @@ controlIn nothing = 0
 controlIn (frame f body) = controlOf f
 controlIn (value bytes) = 0
 
-abbrev stampIn : Written → ℕ
+abbrev pub stampIn : Written → ℕ
 stampIn nothing = 0
 stampIn (frame f body) = f .timestamp
 stampIn (value bytes) = 0
@@ -144,7 +144,7 @@ sentBytes e t =
 abbrev asked : Bool → State → Command → List ℕ → Outcome
 asked notready state k body =
     let e = withNotReady notready (endpointIn slaveSettings state 6000 5 0) in
-    deliverOf e 6040 (sentFields k false (sessionWith e k) cid 10 0) body
+    deliverOf e 6040 (sentFields k false false (sessionWith e k) cid 10 0) body
 
 -- at one that is not ready, with the data that it compares
 abbrev askedRight : State → Command → Outcome
@@ -161,7 +161,7 @@ replying o =
 abbrev reply : Bool → Bool → List ℕ → Outcome
 reply busy error body =
     deliverOf (withPending (Asked 1000) (endpointIn masterSettings ParamVerify 1000 5 0)) 1030
-    (ackFields K.RefreshReady busy error seven cid 1000) body
+    (ackFields K.RefreshReady busy error false seven cid 1000) body
 
 -- its number; the state, the timer's start, m2 and the pending request that it leaves
 abbrev hearing : Outcome → List ℕ
@@ -175,16 +175,16 @@ dueAgain = reply true false zeroWord .endpoint
 -- Readying: S-RefreshGO, sent at 1,040 with OBL 10, taken by the slave whose s2 is 6,010
 abbrev readying : Outcome
 readying =
-    deliverOf (endpointIn slaveSettings RefreshPending 6010 6010 0) 6050 (sentFields K.RefreshGo false seven cid 1040 10)
+    deliverOf (endpointIn slaveSettings RefreshPending 6010 6010 0) 6050 (sentFields K.RefreshGo false false seven cid 1040 10)
     zeroWord
 
 abbrev ready : Endpoint
 ready = readying .endpoint
 
 -- an S-Refresh of the other end with this timestamp and word
-abbrev refreshed : Endpoint → ℕ → ℕ → ℕ → Outcome
+abbrev pub refreshed : Endpoint → ℕ → ℕ → ℕ → Outcome
 refreshed e t stamp w =
-    deliverOf e t (sentFields K.Refresh (not (e .settings .slave)) seven cid stamp 0) (wordBytes w)
+    deliverOf e t (sentFields K.Refresh false (not (e .settings .slave)) seven cid stamp 0) (wordBytes w)
 
 -- the state, the timer's start, the last timestamp accepted, the age then of the value held, and its word
 abbrev held : Endpoint → List ℕ
@@ -192,7 +192,7 @@ held e =
     rowOf (e .state) ∷ e .since ∷ stampOf (e .timestamps .accepted) ∷ e .value .age ∷ wordAt (e .value .bytes) 0 ∷ []
 
 -- its number; what it leaves
-abbrev taking : Outcome → List ℕ
+abbrev pub taking : Outcome → List ℕ
 taking o = numberOf (o .answer) ∷ held (o .endpoint)
 
 -- the master in Refresh since 1,040 that is handed the timestamp 1,120
@@ -274,7 +274,7 @@ wholeAfter r = lent (r .lent .gateway) (r .lent .records ++ (blankRecord ∷ [])
 
 -- an S-Refresh that is later than the one accepted, in bytes
 abbrev arrived : List ℕ
-arrived = frameBytes (sentFields K.Refresh false seven cid 1220 0) (wordBytes 0x090A0B0C)
+arrived = frameBytes (sentFields K.Refresh false false seven cid 1220 0) (wordBytes 0x090A0B0C)
 
 -- what is held of each record: as it was; with that S-Refresh taken at 6,240; ended; blank
 abbrev asItWas : List ℕ
@@ -345,7 +345,7 @@ station notready state result =
 
 -- S-InvokeFunc there, with this timestamp, at 6,030 and as many ticks
 abbrev invoked : Endpoint → ℕ → List ℕ → Outcome
-invoked e stamp body = deliverOf e (6030 + stamp) (sentFields K.InvokeFunc false seven cid stamp 0) body
+invoked e stamp body = deliverOf e (6030 + stamp) (sentFields K.InvokeFunc false false seven cid stamp 0) body
 
 -- once, with timestamp 10
 abbrev performed : Bool → State → List ℕ → Outcome
@@ -360,7 +360,7 @@ abbrev pub alone : Endpoint → Lent
 alone e = lent (atClock 1000 (loadedWith 1)) (recordOf e ∷ [])
 
 -- what a show of this connection gives: the mark, the word shown and its age
-abbrev aging : Endpoint → ℕ → List ℕ
+abbrev pub aging : Endpoint → ℕ → List ℕ
 aging e t =
     let x = afterTick e t in
     cond (isFailSafe x) 1 0 ∷ wordAt (shownOf x) 0 ∷ agedIn (shownAge x t) ∷ []
@@ -407,13 +407,13 @@ abbrev pub commanded : Endpoint
 commanded = sendOf (waiting ParamVerify) 1010 [] .endpoint
 
 -- its reply at 1,030 as the reader hands it on: Busy, Error, timestamp and S-Data
-abbrev pub answered : Bool → Bool → ℕ → List ℕ → Result
+abbrev answered : Bool → Bool → ℕ → List ℕ → Result
 answered busy error stamp body =
-    byReading (alone commanded) 1030 248 body (Frame (ackFields K.InvokeFunc busy error seven cid stamp) 0 (length body))
+    byReading (alone commanded) 1030 248 body (Frame (ackFields K.InvokeFunc busy error false seven cid stamp) 0 (length body))
 
 -- the result in bytes
 abbrev resultBytes : List ℕ
-resultBytes = frameBytes (ackFields K.InvokeFunc false false seven cid 1010) weighed
+resultBytes = frameBytes (ackFields K.InvokeFunc false false false seven cid 1010) weighed
 
 -- its number, entry and count; the state, the timer's start, m2, the pending request and the queue that it leaves; the
 -- bytes written
@@ -424,13 +424,14 @@ hearingIn r =
     ∷ e .setup .measured ∷ pendingOf (e .setup .pending) ∷ queueNumber (e .setup .queue) ∷ bytesOf (r .writes)
 
 -- the endpoint that it leaves
-abbrev pub answeredBy : Result → Endpoint
-answeredBy r = endpointAt (r .lent) 0
+abbrev pub answeredBy : Bool → List ℕ → Endpoint
+answeredBy busy body =
+    deliverOf commanded 1030 (ackFields K.InvokeFunc busy false false seven cid 1010) body .endpoint
 
 -- S-RefreshReady sent at 1,010, and answered Busy at 1,030
 abbrev readyGone : Endpoint
 readyGone =
-    deliverOf (sendOf (master ParamVerify) 1010 [] .endpoint) 1030 (ackFields K.RefreshReady true false seven cid 1010)
+    deliverOf (sendOf (master ParamVerify) 1010 [] .endpoint) 1030 (ackFields K.RefreshReady true false false seven cid 1010)
     zeroWord .endpoint
 
 pub record Case : Type 0 where
@@ -463,10 +464,11 @@ edges =
     ∷ case (ccOf 65530 10) 1
     ∷ case (slaveTime 6100 281474976705676) 1120
     ∷ case (slaveTime 18446744073709551615 18446744073709551615) 281474976710654
-    -- with R = 50 the master at 1,105 counts age 0; at 1,069 number 14, at 1,070 age 0; age 1 would be too late for it
+    -- with R = 50 the master at 1,105 counts age 0; at 1,066 number 14, at 1,067 age 0 (1,069 and 1,070 before document
+    -- 02's note 9); age 1 would be too late for it
     ∷ row (taking (atMaster 1105)) (0 ∷ rowOf Refresh ∷ 1105 ∷ 1120 ∷ 0 ∷ 1 ∷ [])
-    ∷ row (taking (atMaster 1069)) (14 ∷ rowOf Refresh ∷ 1040 ∷ 0 ∷ 0 ∷ 0 ∷ [])
-    ∷ row (taking (atMaster 1070)) (0 ∷ rowOf Refresh ∷ 1070 ∷ 1120 ∷ 0 ∷ 1 ∷ [])
+    ∷ row (taking (atMaster 1066)) (14 ∷ rowOf Refresh ∷ 1040 ∷ 0 ∷ 0 ∷ 0 ∷ [])
+    ∷ row (taking (atMaster 1067)) (0 ∷ rowOf Refresh ∷ 1067 ∷ 1120 ∷ 0 ∷ 1 ∷ [])
     ∷ row (taking (atMaster 1121)) (15 ∷ rowOf Terminate ∷ 1040 ∷ 0 ∷ 0 ∷ 0 ∷ [])
     -- one S-Refresh accepted at 6,180; stamp 1,200 at 6,230 accepted, at 6,231 number 15
     ∷ row (taking first) (0 ∷ rowOf Refresh ∷ 6180 ∷ 1195 ∷ 5 ∷ 0x05060708 ∷ [])
@@ -652,7 +654,7 @@ commands =
     -- a second one while the first waits, is sent, or was answered Busy: 11, and the first stays
     ∷ row (invoking (waiting Starting) 7 []) (11 ∷ 1 ∷ 0 ∷ rowOf Starting ∷ 1000 ∷ 1 ∷ 2 ∷ 0x54415245 ∷ [])
     ∷ row (invoking commanded 7 []) (11 ∷ 1 ∷ 0 ∷ rowOf ParamVerify ∷ 1010 ∷ 1 ∷ 2 ∷ 0x54415245 ∷ [])
-    ∷ row (handing (invokeIn (answered true false 1010 tare .lent) 1040 0 7 []))
+    ∷ row (handing (invokeIn (alone (answeredBy true tare)) 1040 0 7 []))
     (11 ∷ 1 ∷ 0 ∷ rowOf ParamVerify ∷ 1030 ∷ 1 ∷ 2 ∷ 0x54415245 ∷ [])
     -- 0 to 24 words beside the command word pass: 96 bytes; with 97, 100 or 1: 12
     ∷ row (invoking (master Starting) 7 (replicate 96 1)) (0 ∷ 1 ∷ 0 ∷ rowOf Starting ∷ 1000 ∷ 1 ∷ 25 ∷ 7 ∷ [])
@@ -676,13 +678,13 @@ commandReplies =
     ∷ row (hearingIn (deliverIn (alone commanded) 1030 248 resultBytes))
     (0 ∷ 1 ∷ 8 ∷ rowOf ParamVerify ∷ 1030 ∷ 5 ∷ 0 ∷ 0 ∷ weighed)
     -- then another may be queued; else the next send writes S-RefreshReady
-    ∷ row (handing (invokeIn (answered false false 1010 weighed .lent) 1040 0 7 []))
+    ∷ row (handing (invokeIn (alone (answeredBy false weighed)) 1040 0 7 []))
     (0 ∷ 1 ∷ 0 ∷ rowOf ParamVerify ∷ 1030 ∷ 1 ∷ 1 ∷ 7 ∷ [])
-    ∷ row (commanding (sendOf (answeredBy (answered false false 1010 weighed)) 1040 []))
+    ∷ row (commanding (sendOf (answeredBy false weighed) 1040 []))
     (0 ∷ 0xFC010007 ∷ 1040 ∷ rowOf ParamVerify ∷ 2 ∷ 1040 ∷ 4 ∷ zeroWord)
     -- with Busy and the same words: nothing is written, and the command is due again with a new timestamp
     ∷ row (hearingIn (answered true false 1010 tare)) (0 ∷ 1 ∷ 0 ∷ rowOf ParamVerify ∷ 1030 ∷ 5 ∷ 0 ∷ 1 ∷ [])
-    ∷ row (commanding (sendOf (answeredBy (answered true false 1010 tare)) 1040 []))
+    ∷ row (commanding (sendOf (answeredBy true tare) 1040 []))
     (0 ∷ 0x03010007 ∷ 1040 ∷ rowOf ParamVerify ∷ 2 ∷ 1040 ∷ 1 ∷ tare)
     -- Busy with other words, or Error: 16, nothing is written, and the command is gone
     ∷ row (hearingIn (answered true false 1010 weighed)) (16 ∷ 1 ∷ 0 ∷ rowOf Terminate ∷ 1010 ∷ 5 ∷ 1010 ∷ 0 ∷ [])
@@ -691,7 +693,7 @@ commandReplies =
     ∷ row (hearingIn (answered false false 1009 word)) (12 ∷ 1 ∷ 0 ∷ rowOf ParamVerify ∷ 1010 ∷ 5 ∷ 1010 ∷ 1 ∷ [])
     ∷ row (hearingIn (answered true false 1010 word)) (12 ∷ 1 ∷ 0 ∷ rowOf ParamVerify ∷ 1010 ∷ 5 ∷ 1010 ∷ 1 ∷ [])
     ∷ row (hearingIn (answered false false 1009 weighed)) (13 ∷ 1 ∷ 0 ∷ rowOf ParamVerify ∷ 1010 ∷ 5 ∷ 1010 ∷ 1 ∷ [])
-    ∷ row (hearing (deliverOf commanded 1030 (ackFields K.RefreshReady false false seven cid 1010) zeroWord))
+    ∷ row (hearing (deliverOf commanded 1030 (ackFields K.RefreshReady false false false seven cid 1010) zeroWord))
     (11 ∷ rowOf ParamVerify ∷ 1010 ∷ 5 ∷ 1010 ∷ [])
     -- once S-RefreshReady has gone since start: 11, also when it was answered Busy
     ∷ row (invoking (sendOf (master ParamVerify) 1010 [] .endpoint) 7 [])
@@ -724,9 +726,9 @@ agesAtSlave =
 
 unfoldable pub agesAtMaster : List Case
 agesAtMaster =
-    -- ahead by 50 and by 15 counts 0; 10 behind counts 10
-    row (aging (takenAtMaster 1070) 1070) (0 ∷ 1 ∷ 1 ∷ [])
-    ∷ row (aging (takenAtMaster 1070) 1170) (0 ∷ 1 ∷ 101 ∷ [])
+    -- ahead by 53 and by 15 counts 0; 10 behind counts 10
+    row (aging (takenAtMaster 1067) 1067) (0 ∷ 1 ∷ 1 ∷ [])
+    ∷ row (aging (takenAtMaster 1067) 1167) (0 ∷ 1 ∷ 101 ∷ [])
     ∷ row (aging (takenAtMaster 1105) 1110) (0 ∷ 1 ∷ 6 ∷ [])
     ∷ row (aging (takenAtMaster 1130) 1135) (0 ∷ 1 ∷ 16 ∷ [])
     ∷ []
@@ -757,7 +759,7 @@ lentSlices =
     ∷ row (answering (deliverIn short 6331 248 arrived)) (unchanged 2)
     -- after 1: a reading before the last, and one above the limit
     ∷ row (answering (showIn short 6229 248 0)) (unchanged 1)
-    ∷ row (answering (showIn short 281474976645120 248 0)) (unchanged 1)
+    ∷ row (answering (showIn short 281474976579584 248 0)) (unchanged 1)
     -- before 9, a short output's 2, 3 and 4, which come after the clock step
     ∷ row (answering (startIn whole 6331 0)) (steppedTo 9 1)
     ∷ row (answering (showIn short 6331 247 0)) (unchanged 2)

@@ -24,7 +24,7 @@ use Rattle.gateway.specs.Tables.{Lent, endpointAt}
 use Rattle.gateway.specs.Loading.{loadedOf}
 use Rattle.gateway.specs.Calls.{Result, stopIn, restartIn, setRecordIn, clearRecordIn, readErrorIn, writeErrorIn, byReading}
 use Rattle.cases.specs.Cases.{Case, row, case, listOf, slaveSettings, endpointIn, cid, word, zeroWord, pendingOf}
-use Rattle.cases.specs.Cases.{ordinalOf, dataIn, calling, replying, alone, master, waiting, commanded, answered}
+use Rattle.cases.specs.Cases.{ordinalOf, dataIn, calling, replying, alone, master, waiting, commanded}
 use Rattle.cases.specs.Cases.{seven, answeredBy, formOf}
 
 -- ---- records
@@ -121,7 +121,7 @@ station state b = setRecordOf (endpointIn slaveSettings state 6000 5 0) b .endpo
 
 -- a request there, with this timestamp, at 6,030 and as many ticks
 abbrev asked : Endpoint → Command → ℕ → List ℕ → Outcome
-asked e k stamp body = deliverOf e (6030 + stamp) (sentFields k false (sessionWith e k) cid stamp 0) body
+asked e k stamp body = deliverOf e (6030 + stamp) (sentFields k false false (sessionWith e k) cid stamp 0) body
 
 -- what replying tells; then how many words of a record are set, and the reply's S-Data
 abbrev reporting : Outcome → List ℕ
@@ -284,7 +284,7 @@ toWrite state = writeErrorOf (master state) fault .endpoint
 
 -- S-InvokeFunc was sent at 1,010 and has its result
 abbrev invoked : Endpoint
-invoked = answeredBy (answered false false 1010 (wordBytes 1 ++ wordBytes 2))
+invoked = answeredBy false (wordBytes 1 ++ wordBytes 2)
 
 -- what calling tells; then the pending request and the queue, and the S-Data written
 abbrev sending : Outcome → List ℕ
@@ -334,7 +334,7 @@ queued =
 
 -- the request sent at 1,010, and its reply at 1,030: Error, timestamp and S-Data
 abbrev repliedTo : Endpoint → Command → Bool → ℕ → List ℕ → Outcome
-repliedTo e k error stamp body = deliverOf (sendOf e 1010 [] .endpoint) 1030 (ackFields k false error seven cid stamp) body
+repliedTo e k error stamp body = deliverOf (sendOf e 1010 [] .endpoint) 1030 (ackFields k false error false seven cid stamp) body
 
 abbrev readReply : Bool → ℕ → List ℕ → Outcome
 readReply error stamp body = repliedTo (toRead ParamVerify) K.ReadErrorInfo error stamp body
@@ -353,7 +353,7 @@ hearing o =
 abbrev delivered : List ℕ → List ℕ
 delivered body =
     let r = byReading (alone (sendOf (toRead ParamVerify) 1010 [] .endpoint)) 1030 248 body
-    (Frame (ackFields K.ReadErrorInfo false false seven cid 1010) 0 (length body)) in
+    (Frame (ackFields K.ReadErrorInfo false false false seven cid 1010) 0 (length body)) in
     numberOf (r .answer) ∷ ordinalOf (r .entry) ∷ length (bytesOf (r .writes)) ∷ bytesOf (r .writes)
 
 abbrev stays : ℕ → ℕ → List ℕ
@@ -378,7 +378,7 @@ readReplies =
     ∷ row (hearing (readReply true 1010 fault)) ends
     -- after 20 a good reply is still taken; another command's reply: 11, before 20
     ∷ row (hearing (deliverOf (readReply false 1010 noRecord .endpoint) 1040
-    (ackFields K.ReadErrorInfo false false seven cid 1010) fault)) (0 ∷ rowOf ParamVerify ∷ 1040 ∷ 5 ∷ 0 ∷ 0 ∷ fault)
+    (ackFields K.ReadErrorInfo false false false seven cid 1010) fault)) (0 ∷ rowOf ParamVerify ∷ 1040 ∷ 5 ∷ 0 ∷ 0 ∷ fault)
     ∷ row (hearing (repliedTo (toRead ParamVerify) K.WriteErrorInfo false 1010 noRecord)) (stays 11 2)
     ∷ []
 

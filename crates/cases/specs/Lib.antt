@@ -2,4 +2,5 @@
 pub mod Cases
 pub mod ErrorRecords
 pub mod Sessions
+pub mod Measurements
 pub mod Table

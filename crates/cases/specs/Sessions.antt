@@ -45,7 +45,7 @@ slaveIn state = withAccepted 5 (endpointIn slaveSettings state 6000 5 0)
 
 -- a frame at 6,010 with this timestamp, session number and S-Data
 abbrev framed : Endpoint → Command → ℕ → Subconnection → List ℕ → Outcome
-framed e k stamp n body = deliverOf e 6010 (sentFields k false n cid stamp 0) body
+framed e k stamp n body = deliverOf e 6010 (sentFields k false false n cid stamp 0) body
 
 -- a request with the data that it compares, of timestamp 10
 abbrev asked : State → Command → Subconnection → List ℕ
@@ -122,17 +122,17 @@ connecting = sendOf started 1010 [] .endpoint
 
 -- a reply to it at 1,030, with this timestamp and session number
 abbrev connected : Bool → ℕ → Subconnection → Outcome
-connected error stamp n = deliverOf connecting 1030 (ackFields K.Connect false error n cid stamp) word
+connected error stamp n = deliverOf connecting 1030 (ackFields K.Connect false error false n cid stamp) word
 
 -- a master in a state since 1,000 whose number is 7, with a request of 1,000 pending; a reply at 1,030
 abbrev replied : Command → State → Subconnection → Outcome
 replied k state n =
     deliverOf (withPending (Asked 1000) (endpointIn masterSettings state 1000 5 0)) 1030
-    (ackFields k false false n cid 1000) (setupData masterSettings k)
+    (ackFields k false false false n cid 1000) (setupData masterSettings k)
 
 -- a value at 1,030 at a master in Refresh
 abbrev valued : Subconnection → Outcome
-valued n = deliverOf (endpointIn masterSettings Refresh 1000 5 0) 1030 (sentFields K.Refresh true n cid 1020 0) word
+valued n = deliverOf (endpointIn masterSettings Refresh 1000 5 0) 1030 (sentFields K.Refresh false true n cid 1020 0) word
 
 unfoldable pub sessionsAtMaster : List Case
 sessionsAtMaster =

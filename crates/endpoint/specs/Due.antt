@@ -1,8 +1,8 @@
 -- The request due from a master, what can hold it back, whether a command may be queued, and what holds a station's
--- reply back.
-use mathlib.Core.Bool.{Bool, true, false, _&&_, not, cond}
-use Prim.Native.Nat.{ℕ}
-use lib.Dec.{eqb, leb}
+-- reply back; in Refresh the measurement that is due, or under way.
+use mathlib.Core.Bool.{Bool, true, false, _&&_, _||_, not, cond}
+use Prim.Native.Nat.{ℕ, _-_}
+use lib.Dec.{eqb, ltb, leb}
 use Rattle.frame.specs.declared.Command.{Command}
 use Rattle.frame.specs.declared.Command.the-variants as K
 use Rattle.frame.specs.Control.{is, waitsForStation}
@@ -11,7 +11,8 @@ use Rattle.endpoint.specs.declared.Pending.the-variants.{Nothing, Asked}
 use Rattle.endpoint.specs.declared.Queue.{Queue}
 use Rattle.endpoint.specs.declared.Queue.the-variants.{Empty, InvokeFunc, ReadErrorInfo, WriteErrorInfo, Closed}
 use Rattle.endpoint.specs.Endpoint.{Endpoint}
-use Rattle.endpoint.specs.Table.{isSetup, requestOf}
+use Rattle.endpoint.specs.declared.State.the-variants.{Refresh}
+use Rattle.endpoint.specs.Table.{isState, isSetup, requestOf}
 
 abbrev pub isWaiting : Queue → Bool
 isWaiting Empty = false
@@ -75,3 +76,42 @@ mayQueueRead e = mayQueue e && not (e .setup .invoked)
 -- a station that is not ready answers S-InitConfirmNetPrm, S-InitVerifyStnPrm and S-RefreshReady with Busy 1
 abbrev pub isHeldBack : Endpoint → Command → Bool
 isHeldBack e k = e .station .notready && waitsForStation k
+
+-- ---- measurements of the clocks in Refresh (document 02, note 9)
+-- a master measures again so many ticks after its last S-RefreshMO, or after entry into Refresh
+abbrev pub measurementInterval : ℕ
+measurementInterval = 10000
+
+-- when its last step was taken: a request of a master that is pending was sent, else a reply was taken or given
+abbrev pub lastStep : Pending → ℕ → ℕ
+lastStep Nothing measured = measured
+lastStep (Asked stamp) measured = stamp
+
+-- "a measurement whose next step takes over R ticks of an end's clock is dropped there": what is late is none, until
+-- another begins
+abbrev pub isLate : Endpoint → ℕ → Bool
+isLate e t = ltb (e .settings .roundtrip) (t - lastStep (e .setup .pending) (e .setup .measured))
+
+-- one is open at a master: S-RefreshMO waits for its reply, was answered, or S-RefreshGO waits for its reply
+abbrev pub isOpen : Endpoint → ℕ → Bool
+isOpen e t = (isPending (e .setup .pending) || e .measurement .answered) && not (isLate e t)
+
+-- what a send in Refresh writes: a master's "the GO due, else, with none open, an MO 10,000 ticks or more after the last or
+-- entry, else S-Refresh"; a slave's S-Refresh
+abbrev pub refreshDue : Endpoint → ℕ → Command
+refreshDue e t =
+    cond (e .settings .slave) K.Refresh
+    (cond (isOpen e t) (cond (isPending (e .setup .pending)) K.Refresh K.RefreshGo)
+    (cond (leb measurementInterval (t - e .measurement .reference)) K.RefreshMo K.Refresh))
+
+-- whose reply a master awaits in Refresh, if any is pending
+abbrev pub awaitedIn : Endpoint → Command
+awaitedIn e = cond (e .measurement .answered) K.RefreshGo K.RefreshMo
+
+-- Offset op seq of the measurement under way: setup's is 0
+abbrev pub sequenceOf : Endpoint → Bool
+sequenceOf e = isState (e .state) Refresh && e .measurement .sequence
+
+-- a slave that may take S-RefreshGO has a measurement under way: in setup by its state
+abbrev pub isMeasuring : Endpoint → ℕ → Bool
+isMeasuring e t = not (isState (e .state) Refresh) || (e .measurement .answered && not (isLate e t))

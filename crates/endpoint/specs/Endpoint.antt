@@ -10,6 +10,7 @@ use Rattle.endpoint.specs.declared.Settings.{Settings}
 use Rattle.endpoint.specs.declared.State.{State}
 use Rattle.endpoint.specs.declared.Timestamps.{Timestamps}
 use Rattle.endpoint.specs.declared.Setup.{Setup}
+use Rattle.endpoint.specs.declared.Measurement.{Measurement}
 use Rattle.endpoint.specs.declared.Station.{Station}
 use Rattle.endpoint.specs.declared.Core.{Core}
 
@@ -37,6 +38,7 @@ pub record Endpoint : Type 0 where
   pub since : ℕ
   pub timestamps : Timestamps
   pub setup : Setup
+  pub measurement : Measurement
   pub station : Station
   -- at a master its queued S-InvokeFunc, at a slave the station's result
   pub words : Words
@@ -64,6 +66,7 @@ coreOf e = record {
   since = e .since;
   timestamps = e .timestamps;
   setup = e .setup;
+  measurement = e .measurement;
   station = e .station;
   words = e .words .count;
   errorinfo = e .errorinfo .count;
@@ -79,6 +82,7 @@ bare c = record {
   since = c .since;
   timestamps = c .timestamps;
   setup = c .setup;
+  measurement = c .measurement;
   station = c .station;
   words = wordsOf (c .words) noBytes;
   errorinfo = wordsOf (c .errorinfo) noRecord;

@@ -21,9 +21,9 @@ span = 281474976710656
 abbrev pub half : ℕ
 half = 140737488355328
 
--- the highest clock reading: 2^48 − 65,537
+-- the highest clock reading: 2^48 − 131,073
 abbrev pub lastReading : ℕ
-lastReading = 281474976645119
+lastReading = 281474976579583
 
 -- a − b modulo 2^48
 abbrev pub minus : ℕ → ℕ → ℕ
@@ -51,12 +51,12 @@ isAbove (At last) s = ltb last s
 abbrev pub isAhead : ℕ → Bool
 isAhead age = leb half age
 
--- ahead by more than the allowance: 0 at a slave, R at a master
+-- ahead by more than the allowance: 3 at a slave, R + 3 at a master
 abbrev pub isTooFarAhead : ℕ → ℕ → Bool
 isTooFarAhead age allowance = isAhead age && ltb allowance (span - age)
 
 abbrev pub allowanceOf : Settings → ℕ
-allowanceOf s = cond (s .slave) 0 (s .roundtrip)
+allowanceOf s = cond (s .slave) 0 (s .roundtrip) + 3
 
 -- the ticks that an age comes to: ahead counts as 0
 abbrev pub countedAge : ℕ → ℕ
@@ -71,9 +71,13 @@ isTooLate age limit = ltb limit (countedAge age)
 abbrev pub heldAge : Endpoint → ℕ → ℕ
 heldAge e t = (e .value .age + (t - e .since)) % 18446744073709551616
 
--- the bound on the age of a shown value at an end: A + I at a slave, A + I + R at a master
+-- what the clocks' drift adds to ages (document 02, note 9)
+abbrev pub driftAllowance : ℕ
+driftAllowance = 10
+
+-- the bound on the age of a shown value at an end: A + I + 10 at a slave, A + I + R + 10 at a master
 abbrev pub boundOf : Settings → ℕ
-boundOf s = s .age + (s .interval + cond (s .slave) 0 (s .roundtrip))
+boundOf s = s .age + (s .interval + (cond (s .slave) 0 (s .roundtrip) + driftAllowance))
 
 -- the slave's ts_offset from S-RefreshGO: stamp − OBL − s2
 abbrev pub offsetFrom : ℕ → ℕ → ℕ → ℕ
@@ -84,8 +88,18 @@ abbrev pub isOver : State → ℕ → ℕ → ℕ → Bool
 isOver state roundtrip interval passed =
     (isSetup state && ltb roundtrip passed) || (isState state Refresh && ltb interval passed)
 
+-- a slave's ts_offset serves for so many ticks from the s2 that it was reckoned with (document 02, note 9)
+abbrev pub offsetLife : ℕ
+offsetLife = 30000
+
+abbrev pub isOutdated : Endpoint → ℕ → Bool
+isOutdated e t =
+    e .settings .slave && (isState (e .state) Refresh && ltb offsetLife (t - e .measurement .reference))
+
+-- number 9
 abbrev pub isExpired : Endpoint → ℕ → Bool
-isExpired e t = isOver (e .state) (e .settings .roundtrip) (e .settings .interval) (t - e .since)
+isExpired e t =
+    isOver (e .state) (e .settings .roundtrip) (e .settings .interval) (t - e .since) || isOutdated e t
 
 -- no value is held: the fail-safe value
 abbrev pub noValue : Value

@@ -9,19 +9,21 @@ use Rattle.endpoint.specs.declared.Timestamps.{Timestamps}
 use Rattle.endpoint.specs.declared.Pending.{Pending}
 use Rattle.endpoint.specs.declared.Queue.{Queue}
 use Rattle.endpoint.specs.declared.Setup.{Setup}
+use Rattle.endpoint.specs.declared.Measurement.{Measurement}
 use Rattle.endpoint.specs.declared.Station.{Station}
 use Rattle.endpoint.specs.Endpoint.{Value, Words}
 use Rattle.endpoint.specs.Endpoint.{Endpoint}
 
-abbrev pub endpointOf : Settings → State → Subconnection → ℕ → Timestamps → Setup → Station → Words → Words → Value
-    → Endpoint
-endpointOf settings state session since timestamps setup station words errorinfo value = record {
+abbrev pub endpointOf : Settings → State → Subconnection → ℕ → Timestamps → Setup → Measurement → Station → Words
+    → Words → Value → Endpoint
+endpointOf settings state session since timestamps setup measurement station words errorinfo value = record {
   settings = settings;
   state = state;
   session = session;
   since = since;
   timestamps = timestamps;
   setup = setup;
+  measurement = measurement;
   station = station;
   words = words;
   errorinfo = errorinfo;
@@ -30,23 +32,23 @@ endpointOf settings state session since timestamps setup station words errorinfo
 
 abbrev pub inState : State → Endpoint → Endpoint
 inState s e =
-    endpointOf (e .settings) s (e .session) (e .since) (e .timestamps) (e .setup) (e .station) (e .words) (e .errorinfo)
+    endpointOf (e .settings) s (e .session) (e .since) (e .timestamps) (e .setup) (e .measurement) (e .station) (e .words) (e .errorinfo)
     (e .value)
 
 -- its timer starts at t
 abbrev pub timedFrom : ℕ → Endpoint → Endpoint
 timedFrom t e =
-    endpointOf (e .settings) (e .state) (e .session) t (e .timestamps) (e .setup) (e .station) (e .words) (e .errorinfo)
+    endpointOf (e .settings) (e .state) (e .session) t (e .timestamps) (e .setup) (e .measurement) (e .station) (e .words) (e .errorinfo)
     (e .value)
 
 abbrev pub withSession : Subconnection → Endpoint → Endpoint
 withSession n e =
-    endpointOf (e .settings) (e .state) n (e .since) (e .timestamps) (e .setup) (e .station) (e .words) (e .errorinfo)
+    endpointOf (e .settings) (e .state) n (e .since) (e .timestamps) (e .setup) (e .measurement) (e .station) (e .words) (e .errorinfo)
     (e .value)
 
 abbrev pub withTimestamps : Timestamps → Endpoint → Endpoint
 withTimestamps ts e =
-    endpointOf (e .settings) (e .state) (e .session) (e .since) ts (e .setup) (e .station) (e .words) (e .errorinfo)
+    endpointOf (e .settings) (e .state) (e .session) (e .since) ts (e .setup) (e .measurement) (e .station) (e .words) (e .errorinfo)
     (e .value)
 
 -- this timestamp is remembered as the last sent, or as the last accepted
@@ -67,7 +69,7 @@ withSetup pending measured offset requests queue invoked e =
       queue = queue;
       invoked = invoked;
     })
-    (e .station) (e .words) (e .errorinfo) (e .value)
+    (e .measurement) (e .station) (e .words) (e .errorinfo) (e .value)
 
 abbrev pub withPending : Pending → Endpoint → Endpoint
 withPending p e =
@@ -96,25 +98,39 @@ abbrev pub withInvoked : Bool → Endpoint → Endpoint
 withInvoked b e =
     withSetup (e .setup .pending) (e .setup .measured) (e .setup .offset) (e .setup .requests) (e .setup .queue) b e
 
+abbrev pub measurementOf : Bool → Bool → ℕ → Measurement
+measurementOf answered sequence reference =
+    record { answered = answered; sequence = sequence; reference = reference }
+
+abbrev pub withMeasurement : Measurement → Endpoint → Endpoint
+withMeasurement m e =
+    endpointOf (e .settings) (e .state) (e .session) (e .since) (e .timestamps) (e .setup) m (e .station) (e .words)
+    (e .errorinfo) (e .value)
+
+-- its measurement was answered and is not closed, or is
+abbrev pub withAnswered : Bool → Endpoint → Endpoint
+withAnswered b e =
+    withMeasurement (measurementOf b (e .measurement .sequence) (e .measurement .reference)) e
+
 -- S-Data that its user has handed over
 abbrev pub withWords : Words → Endpoint → Endpoint
 withWords w e =
-    endpointOf (e .settings) (e .state) (e .session) (e .since) (e .timestamps) (e .setup) (e .station) w (e .errorinfo)
+    endpointOf (e .settings) (e .state) (e .session) (e .since) (e .timestamps) (e .setup) (e .measurement) (e .station) w (e .errorinfo)
     (e .value)
 
 -- an error record that its user has handed over
 abbrev pub withErrorInfo : Words → Endpoint → Endpoint
 withErrorInfo w e =
-    endpointOf (e .settings) (e .state) (e .session) (e .since) (e .timestamps) (e .setup) (e .station) (e .words) w
+    endpointOf (e .settings) (e .state) (e .session) (e .since) (e .timestamps) (e .setup) (e .measurement) (e .station) (e .words) w
     (e .value)
 
 abbrev pub holding : Value → Endpoint → Endpoint
 holding v e =
-    endpointOf (e .settings) (e .state) (e .session) (e .since) (e .timestamps) (e .setup) (e .station) (e .words)
+    endpointOf (e .settings) (e .state) (e .session) (e .since) (e .timestamps) (e .setup) (e .measurement) (e .station) (e .words)
     (e .errorinfo) v
 
 -- its user says whether the station is not ready
 abbrev pub withNotReady : Bool → Endpoint → Endpoint
 withNotReady b e =
-    endpointOf (e .settings) (e .state) (e .session) (e .since) (e .timestamps) (e .setup) (record { notready = b })
+    endpointOf (e .settings) (e .state) (e .session) (e .since) (e .timestamps) (e .setup) (e .measurement) (record { notready = b })
     (e .words) (e .errorinfo) (e .value)

@@ -1,13 +1,17 @@
 // The request due from a master, what can hold it back, whether a command may be queued, and what holds a station's
-// reply back.
+// reply back; in Refresh the measurement that is due, or under way.
 ghost use mathlib.Core.Path.{_≡_};
 ghost use Rattle.endpoint.specs.Endpoint.{bare};
 ghost use Rattle.endpoint.specs.Due.{isWaiting, isEmpty, queuedIn, isCommandDue, requestDue, isPending, answersTo};
-ghost use Rattle.endpoint.specs.Due.{mayRequest, isExhausted, mayQueue, mayQueueRead, isHeldBack};
+ghost use Rattle.endpoint.specs.Due.{mayRequest, isExhausted, mayQueue, mayQueueRead, isHeldBack, refreshDue};
+ghost use Rattle.endpoint.specs.Due.{lastStep, isLate, isOpen, awaitedIn, sequenceOf, isMeasuring};
+ghost use Prim.Native.Nat.{_-_};
 use super::Core;
 use super::Pending;
 use super::Queue;
+use super::State;
 use super::table::is_setup;
+use super::table::is_state;
 use super::table::request_of;
 use frame::Command;
 use frame::control::is;
@@ -15,6 +19,9 @@ use frame::control::waits_for_station;
 
 // A start writes at most so many requests.
 const REQUEST_LIMIT: u8 = 45;
+
+// A master measures again so many ticks after its last S-RefreshMO, or after entry into Refresh.
+const MEASUREMENT_INTERVAL: u64 = 10000;
 
 pub fn is_waiting(queue: Queue) -> bool
     ensures { λ r. ⌜ r ≡ isWaiting queue ⌝ }
@@ -134,4 +141,88 @@ pub fn is_held_back(e: Core, k: Command) -> bool
     ensures { λ r. ⌜ r ≡ isHeldBack (bare e) k ⌝ }
 {
     e.station.notready & waits_for_station(k)
+}
+
+// Ticks from since to clock, 0 where clock is below.
+pub fn passed(clock: u64, since: u64) -> u64
+    ensures { λ r. ⌜ r ≡ clock - since ⌝ }
+{
+    if clock < since { 0 } else { clock - since }
+}
+
+// When a measurement's last step was taken.
+fn last_step(pending: Pending, measured: u64) -> u64
+    ensures { λ r. ⌜ r ≡ lastStep pending measured ⌝ }
+{
+    match pending {
+        Pending::Nothing => measured,
+        Pending::Asked(stamp) => stamp,
+    }
+}
+
+// Whether the next step of a measurement is late, so that it is none.
+pub fn is_late(e: Core, clock: u64) -> bool
+    ensures { λ r. ⌜ r ≡ isLate (bare e) clock ⌝ }
+{
+    let setup = e.setup;
+    let pending = setup.pending;
+    let last = last_step(pending, setup.measured);
+    (e.settings.roundtrip as u64) < passed(clock, last)
+}
+
+// Whether a master has a measurement open.
+fn is_open(e: Core, clock: u64) -> bool
+    ensures { λ r. ⌜ r ≡ isOpen (bare e) clock ⌝ }
+{
+    let setup = e.setup;
+    let pending = setup.pending;
+    (is_pending(pending) | e.measurement.answered) & !is_late(e, clock)
+}
+
+// What a send in Refresh writes.
+pub fn refresh_due(e: Core, clock: u64) -> Command
+    ensures { λ r. ⌜ r ≡ refreshDue (bare e) clock ⌝ }
+{
+    if e.settings.slave {
+        return Command::Refresh;
+    }
+    if is_open(e, clock) {
+        let setup = e.setup;
+        let pending = setup.pending;
+        if is_pending(pending) {
+            return Command::Refresh;
+        }
+        return Command::RefreshGo;
+    }
+    if MEASUREMENT_INTERVAL <= passed(clock, e.measurement.reference) {
+        return Command::RefreshMo;
+    }
+    Command::Refresh
+}
+
+// Whose reply a master awaits in Refresh, if any is pending.
+pub fn awaited_in(e: Core) -> Command
+    ensures { λ r. ⌜ r ≡ awaitedIn (bare e) ⌝ }
+{
+    if e.measurement.answered {
+        return Command::RefreshGo;
+    }
+    Command::RefreshMo
+}
+
+// Offset op seq of the measurement under way.
+pub fn sequence_of(e: Core) -> bool
+    ensures { λ r. ⌜ r ≡ sequenceOf (bare e) ⌝ }
+{
+    let state = e.state;
+    is_state(state, State::Refresh) & e.measurement.sequence
+}
+
+// Whether a slave that may take S-RefreshGO has a measurement under way.
+pub fn is_measuring(e: Core, clock: u64) -> bool
+    ensures { λ r. ⌜ r ≡ isMeasuring (bare e) clock ⌝ }
+{
+    let state = e.state;
+    let late = is_late(e, clock);
+    !is_state(state, State::Refresh) | (e.measurement.answered & !late)
 }

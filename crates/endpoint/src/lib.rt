@@ -56,7 +56,8 @@ pub struct Timestamps {
     pub accepted: Timestamp,
 }
 
-// A master's request that waits for its reply, by its timestamp. Its command is the one due in the state.
+// A master's request that waits for its reply, by its timestamp. Its command is the one due in the state; in Refresh
+// S-RefreshMO, or S-RefreshGO once that was answered.
 pub enum Pending {
     Nothing,
     Asked(u64),
@@ -72,7 +73,8 @@ pub enum Queue {
     Closed,
 }
 
-// Setup. Measured: s2 at a slave, m2 at a master. Offset: a slave's ts_offset. Requests: how many setup requests a
+// Setup, and in Refresh what a measurement of the clocks has of it: pending, measured and offset. Measured: s2 at a
+// slave, m2 at a master. Offset: a slave's ts_offset. Requests: how many setup requests a
 // master has written since its last start or loading, S-Disconnect aside. Invoked: S-InvokeFunc has gone since then.
 pub struct Setup {
     pub pending: Pending,
@@ -81,6 +83,16 @@ pub struct Setup {
     pub requests: u8,
     pub queue: Queue,
     pub invoked: bool,
+}
+
+// Measurements of the clocks in Refresh (document 02): S-RefreshMO, its reply, S-RefreshGO, its reply.
+pub struct Measurement {
+    // S-RefreshMO was answered, and the measurement is not closed: at a slave by S-RefreshGO, at a master by its reply
+    pub answered: bool,
+    // Offset op seq of the last one
+    pub sequence: bool,
+    // at a slave the s2 that its ts_offset was reckoned with; at a master where the last one began, or Refresh
+    pub reference: u64,
 }
 
 // What the station's user has set, unset after loading; it survives restart and Terminate. A master's is of no account.
@@ -100,6 +112,7 @@ pub struct Core {
     pub since: u64,
     pub timestamps: Timestamps,
     pub setup: Setup,
+    pub measurement: Measurement,
     pub station: Station,
     // how many words of S-Data its user has handed over: a master's queued S-InvokeFunc, a station's result, 0 for none
     pub words: u8,

@@ -7,12 +7,13 @@ use super::Next;
 use super::State;
 use frame::Command;
 
-// In each row: Connect, ConfirmNetwork, VerifyStation, InvokeFunc, ReadErrorInfo, WriteErrorInfo, RefreshReady, RefreshGo,
-// Refresh, Disconnect. Beside what leads somewhere its transition in table 40, or 01 or 02 where that document alone has it.
+// In each row: Connect, ConfirmNetwork, VerifyStation, InvokeFunc, ReadErrorInfo, WriteErrorInfo, RefreshReady, RefreshMo,
+// RefreshGo, Refresh, Disconnect. Beside what leads somewhere its transition in table 40, or 01 or 02 where that document alone has it.
 // Where more error records follow, WriteErrorInfo leads to TerminateMore (the crate transitions).
-const NEXT: [Next; 100] = [
+const NEXT: [Next; 110] = [
     // Close
     Next::To(State::EstablishPending), // ST1
+    Next::No,
     Next::No,
     Next::No,
     Next::No,
@@ -32,6 +33,7 @@ const NEXT: [Next; 100] = [
     Next::No,
     Next::No,
     Next::No,
+    Next::No,
     Next::To(State::Terminate), // 01
     // EstablishPending
     Next::To(State::EstablishPending), // ST25
@@ -40,6 +42,7 @@ const NEXT: [Next; 100] = [
     Next::No,
     Next::No,
     Next::To(State::Terminate), // ST28, ST29
+    Next::No,
     Next::No,
     Next::No,
     Next::No,
@@ -54,6 +57,7 @@ const NEXT: [Next; 100] = [
     Next::No,
     Next::No,
     Next::No,
+    Next::No,
     Next::To(State::Terminate), // 01
     // ParamVerify
     Next::No,
@@ -63,6 +67,7 @@ const NEXT: [Next; 100] = [
     Next::To(State::ParamVerify), // 02
     Next::To(State::Terminate), // ST34, ST35
     Next::To(State::RefreshPending), // ST6
+    Next::No,
     Next::No,
     Next::No,
     Next::To(State::Terminate), // 01
@@ -76,6 +81,7 @@ const NEXT: [Next; 100] = [
     Next::To(State::RefreshPending), // ST12
     Next::No,
     Next::No,
+    Next::No,
     Next::To(State::Terminate), // 01
     // RefreshPending
     Next::No,
@@ -84,6 +90,7 @@ const NEXT: [Next; 100] = [
     Next::No,
     Next::No,
     Next::To(State::Terminate), // ST39, ST40
+    Next::No,
     Next::No,
     Next::To(State::Refresh), // ST14
     Next::No,
@@ -96,7 +103,8 @@ const NEXT: [Next; 100] = [
     Next::No,
     Next::No,
     Next::No,
-    Next::No,
+    Next::To(State::Refresh), // ST17
+    Next::To(State::Refresh), // ST18
     Next::To(State::Refresh), // 01
     Next::To(State::Terminate), // 01
     // Terminate
@@ -110,6 +118,7 @@ const NEXT: [Next; 100] = [
     Next::No,
     Next::No,
     Next::No,
+    Next::No,
     // TerminateMore, a slave's alone
     Next::No,
     Next::No,
@@ -117,6 +126,7 @@ const NEXT: [Next; 100] = [
     Next::No,
     Next::No,
     Next::To(State::Terminate), // ST21, ST44
+    Next::No,
     Next::No,
     Next::No,
     Next::No,
@@ -143,7 +153,7 @@ fn row(s: State) -> usize
 
 // A command's column.
 fn column(k: Command) -> usize
-    ensures { λ r. ⌜ (r ≡ columnOf k) × (r < 10) ⌝ }
+    ensures { λ r. ⌜ (r ≡ columnOf k) × (r < 11) ⌝ }
 {
     match k {
         Command::Connect => 0,
@@ -153,9 +163,10 @@ fn column(k: Command) -> usize
         Command::ReadErrorInfo => 4,
         Command::WriteErrorInfo => 5,
         Command::RefreshReady => 6,
-        Command::RefreshGo => 7,
-        Command::Refresh => 8,
-        Command::Disconnect => 9,
+        Command::RefreshMo => 7,
+        Command::RefreshGo => 8,
+        Command::Refresh => 9,
+        Command::Disconnect => 10,
     }
 }
 
@@ -194,7 +205,7 @@ pub fn is_terminated(s: State) -> bool
 pub fn next_state(k: Command, s: State) -> Next
     ensures { λ r. ⌜ r ≡ nextOf k s ⌝ }
 {
-    let i = row(s) * 10 + column(k);
+    let i = row(s) * 11 + column(k);
     NEXT[i]
 }
 
@@ -216,7 +227,7 @@ pub fn state_to(next: Next, last: State) -> State
     }
 }
 
-// The request that is due from a master in a setup state.
+// The request that is due from a master in a setup state; in Refresh S-RefreshMO.
 pub fn request_of(s: State) -> Command
     ensures { λ r. ⌜ r ≡ requestOf s ⌝ }
 {
@@ -228,7 +239,7 @@ pub fn request_of(s: State) -> Command
         State::ParamVerify => Command::RefreshReady,
         State::FuncRunning => Command::RefreshReady,
         State::RefreshPending => Command::RefreshGo,
-        State::Refresh => Command::Connect,
+        State::Refresh => Command::RefreshMo,
         State::Terminate => Command::Connect,
         State::TerminateMore => Command::Connect,
     }

@@ -1,15 +1,15 @@
 // Clocks, timestamps and ages, and the clock step.
 ghost use mathlib.Core.Path.{_≡_};
-ghost use Prim.Native.Nat.{_-_};
 ghost use Rattle.endpoint.specs.Endpoint.{bare, coreOf};
 ghost use Rattle.endpoint.specs.Time.{minus, masterTime, isAbove, isTooFarAhead, allowanceOf, isTooLate};
-ghost use Rattle.endpoint.specs.Time.{offsetFrom, isOver, isExpired, endedOf, afterTick, timeOf, ageOf};
+ghost use Rattle.endpoint.specs.Time.{offsetFrom, isOver, isOutdated, isExpired, endedOf, afterTick, timeOf, ageOf};
 ghost use Rattle.endpoint.specs.Time.{countedAge, heldAge, boundOf};
 use super::Core;
 use super::Queue;
 use super::Settings;
 use super::State;
 use super::Timestamp;
+use super::due::passed;
 use super::t_code::slave_time;
 use super::table::is_setup;
 use super::table::is_state;
@@ -17,18 +17,14 @@ use super::updates::in_state;
 use super::updates::with_queue;
 use frame::TIMESTAMP_MODULUS;
 
-// The highest clock reading: 2^48 - 65,537.
-pub const LAST_READING: u64 = 281474976645119;
+// The highest clock reading: 2^48 - 131,073.
+pub const LAST_READING: u64 = 281474976579583;
 
 // An age from 2^47 on means that the timestamp is ahead.
 const AHEAD: u64 = 140737488355328;
 
-// Ticks from since to clock, 0 where clock is below.
-pub fn passed(clock: u64, since: u64) -> u64
-    ensures { λ r. ⌜ r ≡ clock - since ⌝ }
-{
-    if clock < since { 0 } else { clock - since }
-}
+// A slave's ts_offset serves for so many ticks from the s2 that it was reckoned with.
+const OFFSET_LIFE: u64 = 30000;
 
 // a less b, modulo 2^48.
 pub fn minus(a: u64, b: u64) -> u64
@@ -77,16 +73,19 @@ pub fn is_above(last: Timestamp, stamp: u64) -> bool
 }
 
 // Ahead by more than the allowance.
-pub fn is_too_far_ahead(age: u64, allowance: u32) -> bool
+pub fn is_too_far_ahead(age: u64, allowance: u64) -> bool
     ensures { λ r. ⌜ r ≡ isTooFarAhead age allowance ⌝ }
 {
-    (AHEAD <= age) & ((allowance as u64) < passed(TIMESTAMP_MODULUS, age))
+    (AHEAD <= age) & (allowance < passed(TIMESTAMP_MODULUS, age))
 }
 
-pub fn allowance(s: Settings) -> u32
+pub fn allowance(s: Settings) -> u64
     ensures { λ r. ⌜ r ≡ allowanceOf s ⌝ }
 {
-    if s.slave { 0 } else { s.roundtrip }
+    if s.slave {
+        return 3;
+    }
+    (s.roundtrip as u64) + 3
 }
 
 // The ticks that an age comes to.
@@ -113,7 +112,7 @@ pub fn held_age(e: Core, clock: u64) -> u64
 pub fn bound(s: Settings) -> u64
     ensures { λ r. ⌜ r ≡ boundOf s ⌝ }
 {
-    let held = (s.age as u64) + (s.interval as u64);
+    let held = (s.age as u64) + (s.interval as u64) + 10;
     if s.slave {
         return held;
     }
@@ -135,7 +134,16 @@ fn is_over(state: State, roundtrip: u32, interval: u32, passed: u64) -> bool
         | (is_state(state, State::Refresh) & ((interval as u64) < passed))
 }
 
-// Whether a clock reading ends the connection: its timer has expired.
+// Whether a slave's ts_offset is too old.
+fn is_outdated(e: Core, clock: u64) -> bool
+    ensures { λ r. ⌜ r ≡ isOutdated (bare e) clock ⌝ }
+{
+    let state = e.state;
+    e.settings.slave
+        & (is_state(state, State::Refresh) & (OFFSET_LIFE < passed(clock, e.measurement.reference)))
+}
+
+// Whether a clock reading ends the connection: its timer has expired, or its ts_offset is too old.
 pub fn expired(e: Core, clock: u64) -> bool
     ensures { λ r. ⌜ r ≡ isExpired (bare e) clock ⌝ }
 {
@@ -146,6 +154,7 @@ pub fn expired(e: Core, clock: u64) -> bool
         e.settings.interval,
         passed(clock, e.since),
     )
+        | is_outdated(e, clock)
 }
 
 // The endpoint in Terminate, with no value held and no command waiting.
@@ -158,7 +167,7 @@ pub fn ended(e: Core) -> Core
     next
 }
 
-// The clock step: the endpoint ended where its timer has expired, else as it was.
+// The clock step: the endpoint ended where its timer has expired or its ts_offset is too old, else as it was.
 pub fn tick(e: Core, clock: u64) -> Core
     ensures { λ r. ⌜ r ≡ coreOf (afterTick (bare e) clock) ⌝ }
 {

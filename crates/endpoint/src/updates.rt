@@ -18,6 +18,7 @@ fn with_both(state: State, session: Subconnection, e: Core) -> Core
     let settings = e.settings;
     let timestamps = e.timestamps;
     let setup = e.setup;
+    let measurement = e.measurement;
     let station = e.station;
     Core {
         settings: settings,
@@ -26,6 +27,7 @@ fn with_both(state: State, session: Subconnection, e: Core) -> Core
         since: e.since,
         timestamps: timestamps,
         setup: setup,
+        measurement: measurement,
         station: station,
         words: e.words,
         errorinfo: e.errorinfo,

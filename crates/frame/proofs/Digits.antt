@@ -9,7 +9,7 @@ use borrow.Author.Tests.{eq-eqb, ne-eqb}
 use Rattle.frame.specs.declared.Command.{Command}
 use Rattle.frame.specs.declared.Command.the-variants.{Connect, ConfirmNetwork, VerifyStation, InvokeFunc}
 use Rattle.frame.specs.declared.Command.the-variants.{Disconnect, ReadErrorInfo, WriteErrorInfo, RefreshReady}
-use Rattle.frame.specs.declared.Command.the-variants.{RefreshGo, Refresh}
+use Rattle.frame.specs.declared.Command.the-variants.{RefreshMo, RefreshGo, Refresh}
 use Rattle.frame.specs.declared.Subconnection.{Subconnection}
 use Rattle.frame.specs.declared.Subconnection.the-variants.{Absent, Number}
 use Rattle.frame.specs.declared.Fields.{Fields}
@@ -28,6 +28,7 @@ code-le Disconnect = lit≤ tt
 code-le ReadErrorInfo = lit≤ tt
 code-le WriteErrorInfo = lit≤ tt
 code-le RefreshReady = lit≤ tt
+code-le RefreshMo = lit≤ tt
 code-le RefreshGo = lit≤ tt
 code-le Refresh = lit≤ tt
 
@@ -40,6 +41,7 @@ command-of-code Disconnect = refl
 command-of-code ReadErrorInfo = refl
 command-of-code WriteErrorInfo = refl
 command-of-code RefreshReady = refl
+command-of-code RefreshMo = refl
 command-of-code RefreshGo = refl
 command-of-code Refresh = refl
 

@@ -5,7 +5,7 @@ use lib.Dec.{eqb}
 use Rattle.frame.specs.declared.Command.{Command}
 use Rattle.frame.specs.declared.Command.the-variants.{Connect, ConfirmNetwork, VerifyStation, InvokeFunc}
 use Rattle.frame.specs.declared.Command.the-variants.{Disconnect, ReadErrorInfo, WriteErrorInfo, RefreshReady}
-use Rattle.frame.specs.declared.Command.the-variants.{RefreshGo, Refresh}
+use Rattle.frame.specs.declared.Command.the-variants.{RefreshMo, RefreshGo, Refresh}
 use Rattle.frame.specs.declared.Subconnection.{Subconnection}
 use Rattle.frame.specs.declared.Subconnection.the-variants.{Absent, Number}
 use Rattle.frame.specs.declared.Fields.{Fields}
@@ -20,6 +20,7 @@ codeOf Disconnect = 0xF9
 codeOf ReadErrorInfo = 0xFA
 codeOf WriteErrorInfo = 0xFB
 codeOf RefreshReady = 0xFC
+codeOf RefreshMo = 0xFD
 codeOf RefreshGo = 0xFE
 codeOf Refresh = 0xFF
 
@@ -34,7 +35,8 @@ commandOf code =
     (cond (eqb code 0xFA) ReadErrorInfo
     (cond (eqb code 0xFB) WriteErrorInfo
     (cond (eqb code 0xFC) RefreshReady
-    (cond (eqb code 0xFE) RefreshGo Refresh))))))))
+    (cond (eqb code 0xFD) RefreshMo
+    (cond (eqb code 0xFE) RefreshGo Refresh)))))))))
 
 abbrev pub is : Command → Command → Bool
 is a b = eqb (codeOf a) (codeOf b)
@@ -108,9 +110,14 @@ errorFits f = not (f .error) || f .ack
 abbrev pub baselineFits : Fields → Bool
 baselineFits f = eqb (f .baseline) 0 || (is (f .command) RefreshGo && not (f .ack))
 
--- Offset op seq is not used
+-- the commands that Offset op seq joins (document 02, note 9): a measurement in Refresh, whose S-RefreshGO closes it;
+-- setup's has 0
+abbrev pub isJoined : Command → Bool
+isJoined k = is k RefreshMo || is k RefreshGo
+
+-- Offset op seq may be 1 in those only
 abbrev pub sequenceFits : Fields → Bool
-sequenceFits f = not (f .sequence)
+sequenceFits f = not (f .sequence) || isJoined (f .command)
 
 -- Sub CID carries the session number (document 02, note 8); an S-Connect request has none
 abbrev pub sessionFits : Fields → Bool

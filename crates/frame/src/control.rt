@@ -2,7 +2,7 @@
 ghost use mathlib.Core.Path.{_≡_};
 ghost use Prim.Native.Nat.{_≤_, _<_};
 ghost use Rattle.frame.specs.Control.{codeOf, commandOf, is, subconnectionBits, subconnectionOf, isAbsent, flag};
-ghost use Rattle.frame.specs.Control.{controlOf, waitsForStation, mayBeBusy, hasForm, isSame, narrowed};
+ghost use Rattle.frame.specs.Control.{controlOf, waitsForStation, mayBeBusy, isJoined, hasForm, isSame, narrowed};
 use super::Command;
 use super::Fields;
 use super::Subconnection;
@@ -19,6 +19,7 @@ fn code_of(command: Command) -> u32
         Command::ReadErrorInfo => 0xFA,
         Command::WriteErrorInfo => 0xFB,
         Command::RefreshReady => 0xFC,
+        Command::RefreshMo => 0xFD,
         Command::RefreshGo => 0xFE,
         Command::Refresh => 0xFF,
     }
@@ -51,6 +52,9 @@ pub(crate) fn command_of(code: u32) -> Command
     }
     if code == 0xFC {
         return Command::RefreshReady;
+    }
+    if code == 0xFD {
+        return Command::RefreshMo;
     }
     if code == 0xFE {
         return Command::RefreshGo;
@@ -145,6 +149,13 @@ fn may_be_busy(k: Command) -> bool
     waits_for_station(k) | is(k, Command::InvokeFunc)
 }
 
+// Whether Offset op seq joins the command to others.
+pub fn is_joined(k: Command) -> bool
+    ensures { λ r. ⌜ r ≡ isJoined k ⌝ }
+{
+    is(k, Command::RefreshMo) | is(k, Command::RefreshGo)
+}
+
 // The form rule on fields.
 pub(crate) fn has_form(f: Fields) -> bool
     ensures { λ r. ⌜ r ≡ hasForm f ⌝ }
@@ -156,13 +167,15 @@ pub(crate) fn has_form(f: Fields) -> bool
     let go = is(command, Command::RefreshGo);
     let connect = is(command, Command::Connect);
     let may_be_busy = may_be_busy(command);
+    let joined = is_joined(command);
     let ack_fits = !f.ack | !(refresh | disconnect);
     let application_fits = refresh | (f.application == f.ack);
     let busy_fits = !f.busy | (f.ack & may_be_busy);
     let error_fits = !f.error | f.ack;
     let baseline_fits = (f.baseline == 0) | (go & !f.ack);
+    let sequence_fits = !f.sequence | joined;
     let session_fits = is_absent(subconnection) | (f.ack | !connect);
     ack_fits
         & (application_fits
-            & (busy_fits & (error_fits & (baseline_fits & (!f.sequence & session_fits)))))
+            & (busy_fits & (error_fits & (baseline_fits & (sequence_fits & session_fits)))))
 }

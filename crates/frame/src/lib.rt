@@ -29,6 +29,8 @@ pub enum Command {
     WriteErrorInfo,
     // S-RefreshReady, 0xFC
     RefreshReady,
+    // S-RefreshMO, 0xFD (document 02)
+    RefreshMo,
     // S-RefreshGO, 0xFE
     RefreshGo,
     // S-Refresh, 0xFF
@@ -47,7 +49,7 @@ pub struct Fields {
     pub ack: bool,
     pub busy: bool,
     pub error: bool,
-    // Offset op seq
+    // Offset op seq: joins the frames of one measurement of the clocks
     pub sequence: bool,
     // Application: 0 from a master, 1 from a slave
     pub application: bool,

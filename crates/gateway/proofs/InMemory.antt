@@ -22,12 +22,12 @@ starts t k (suc n) = startOf (fieldOf t k) ∷ starts t (suc k) n
 abbrev Lies : Data → ℕ → ℕ → ℕ → List ℕ → Type 0
 Lies d bytes by n at = (size (d .ty) ≡ bytes) × (align (d .ty) ≡ by) × (starts (d .ty) 0 n ≡ at)
 
-pub stored-lies : Lies stored 96 8 28
-    (0 ∷ 8 ∷ 12 ∷ 16 ∷ 20 ∷ 24 ∷ 28 ∷ 29 ∷ 30 ∷ 31 ∷ 32 ∷ 40 ∷ 48 ∷ 56 ∷ 64 ∷ 72 ∷ 80 ∷ 81 ∷ 82 ∷ 83 ∷ 84 ∷ 85 ∷ 86 ∷ 87
-    ∷ 88 ∷ 89 ∷ 90 ∷ 92 ∷ [])
+pub stored-lies : Lies stored 104 8 31
+    (0 ∷ 8 ∷ 16 ∷ 20 ∷ 24 ∷ 28 ∷ 29 ∷ 30 ∷ 31 ∷ 32 ∷ 40 ∷ 48 ∷ 52 ∷ 56 ∷ 57 ∷ 58 ∷ 59 ∷ 60 ∷ 61 ∷ 62 ∷ 63 ∷ 64 ∷ 72 ∷ 80
+    ∷ 88 ∷ 96 ∷ 98 ∷ 99 ∷ 100 ∷ 101 ∷ 102 ∷ [])
 stored-lies = (refl, refl, refl)
 
-pub record-lies : Lies rec 352 8 4 (0 ∷ 96 ∷ 196 ∷ 296 ∷ [])
+pub record-lies : Lies rec 360 8 4 (0 ∷ 104 ∷ 204 ∷ 304 ∷ [])
 record-lies = (refl, refl, refl)
 
 pub gateway-lies : Lies gateway 16 8 2 (0 ∷ 8 ∷ [])

@@ -85,7 +85,7 @@ stored-in = record {
 
 abbrev pub value-in : Inside rec value
 value-in =
-    array-in rec w8 100 1 96 (λ r. r .value) withValue refl (λ M 𝓤 H A K W t q b o r. sub t 1 refl (whole t))
+    array-in rec w8 100 1 104 (λ r. r .value) withValue refl (λ M 𝓤 H A K W t q b o r. sub t 1 refl (whole t))
     (λ r x. refl)
     (λ r is. LL.owed R.the-type R′.the-laws r _ is .1 .0)
     (λ r x is is-x. let w = LL.owed R.the-type R′.the-laws r _ is in
@@ -93,7 +93,7 @@ value-in =
 
 abbrev pub words-in : Inside rec value
 words-in =
-    array-in rec w8 100 2 196 (λ r. r .words) withWords refl (λ M 𝓤 H A K W t q b o r. sub t 2 refl (whole t))
+    array-in rec w8 100 2 204 (λ r. r .words) withWords refl (λ M 𝓤 H A K W t q b o r. sub t 2 refl (whole t))
     (λ r x. refl)
     (λ r is. LL.owed R.the-type R′.the-laws r _ is .1 .1 .0)
     (λ r x is is-x. let w = LL.owed R.the-type R′.the-laws r _ is in
@@ -101,7 +101,7 @@ words-in =
 
 abbrev pub errorinfo-in : Inside rec errorinfo
 errorinfo-in =
-    array-in rec w8 56 3 296 (λ r. r .errorinfo) withErrorInfo refl
+    array-in rec w8 56 3 304 (λ r. r .errorinfo) withErrorInfo refl
     (λ M 𝓤 H A K W t q b o r. sub t 3 refl (whole t))
     (λ r x. refl)
     (λ r is. LL.owed R.the-type R′.the-laws r _ is .1 .1 .1 .0)
@@ -160,11 +160,11 @@ kinds = record {
   c-plain = uint-plain w64;
   s-plain = plains .s-plain;
   r-small = tt;
-  told-off = 96;
-  steps-off = 144;
-  clock-off = 152;
-  place-off = 160;
-  wipe-off = 168;
+  told-off = 104;
+  steps-off = 152;
+  clock-off = 160;
+  place-off = 168;
+  wipe-off = 176;
   core-at = refl;
   told-at = refl;
   steps-at = refl;

@@ -23,7 +23,7 @@ use records::is_over;
 use records::stored_of;
 use steps::Stepped;
 
-// At most 2^48 - 65,537, and not below the last reading: else number 1.
+// At most 2^48 - 131,073, and not below the last reading: else number 1.
 fn is_reading(g: Gateway, clock: u64) -> bool
     ensures { λ r. ⌜ r ≡ isReading g clock ⌝ }
 {

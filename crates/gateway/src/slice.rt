@@ -52,6 +52,9 @@ pub(crate) fn blank() -> Stored
         valueage: 0,
         session: 0,
         hassession: 0,
+        answered: 0,
+        sequence: 0,
+        reference: 0,
     }
 }
 

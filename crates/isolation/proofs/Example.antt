@@ -72,7 +72,7 @@ sessionFor k = cond (is k K.Connect) Absent (Number number)
 
 request : ℕ → Command → ℕ → Event
 request t k baseline =
-    event (5001 + t) 248 (deliver (frameBytes (sentFields k false (sessionFor k) cid t baseline) (data-of k)))
+    event (5001 + t) 248 (deliver (frameBytes (sentFields k false false (sessionFor k) cid t baseline) (data-of k)))
 
 -- the station's result, and the call that sets it
 result : List ℕ
@@ -84,11 +84,11 @@ resultSet = event 5034 0 (act (setResult result) 1)
 refresh : Event
 refresh =
     event 5061 248
-    (deliver (frameBytes (sentFields K.Refresh false (sessionFor K.Refresh) cid 60 0) (1 ∷ 2 ∷ 3 ∷ 4 ∷ [])))
+    (deliver (frameBytes (sentFields K.Refresh false false (sessionFor K.Refresh) cid 60 0) (1 ∷ 2 ∷ 3 ∷ 4 ∷ [])))
 
 -- a frame of a CID that the first gateway holds at entry 0, the second at entry 2
 elsewhere : Call
-elsewhere = deliver (frameBytes (sentFields K.Refresh true Absent 0x01100111 60 0) (9 ∷ 9 ∷ 9 ∷ 9 ∷ []))
+elsewhere = deliver (frameBytes (sentFields K.Refresh false true Absent 0x01100111 60 0) (9 ∷ 9 ∷ 9 ∷ 9 ∷ []))
 
 run : List Event
 run =
@@ -143,7 +143,7 @@ abbrev tell : Answer → Entry → Written → Told
 tell a n w = telling None a n w
 
 repliedWith : List ℕ → ℕ → Command → Told
-repliedWith body t k = tell Done (At 1) (frame (ackFields k false false (Number number) cid t) body)
+repliedWith body t k = tell Done (At 1) (frame (ackFields k false false false (Number number) cid t) body)
 
 replied : ℕ → Command → Told
 replied t k = repliedWith (data-of k) t k

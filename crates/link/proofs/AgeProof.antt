@@ -2,7 +2,7 @@
 use mathlib.Core.Path.{_≡_, refl, sym, ap, subst, _∙_}
 use mathlib.Core.Bool.{Bool, true, false, not, cond, false≢true}
 use mathlib.Core.List.{List, [], _∷_, _++_, append-nil}
-use mathlib.Core.Logic.{inl, ⊎-elim}
+use mathlib.Core.Logic.{inl}
 use Prim.Native.Nat.{ℕ, _+_, _%_, _≤_, _<_}
 use native.Mathlib.Nat.{not-suc-le-zero}
 use native.Mathlib.Omega.{arith}
@@ -19,15 +19,16 @@ use Rattle.steps.specs.Calls.{isFailSafe, shownOf}
 use Rattle.steps.proofs.Dispatch.{cond-false}
 use Rattle.steps.proofs.Keeps.{bcase}
 use Rattle.steps.specs.Steps.{Call, act, send, deliver, show, callOf}
-use Rattle.link.specs.Runs.{Clocks, momentOf, Event, called, loaded, Sent, sentAt, logged, Grant, grant}
-use Rattle.link.specs.Runs.{Show, shown, showAt, Link, mayDeliver, tookBy, shownBy, isSlaves, afterLoad}
+use Rattle.link.specs.Clocks.{Reading, keepsPace, momentOf}
+use Rattle.link.specs.Runs.{Event, called, loaded, Sent, sentAt, logged, Grant, grant, Show, shown, showAt, Link}
+use Rattle.link.specs.Runs.{mayDeliver, tookBy, shownBy, neverFalls, isReading, isPaced, isSlaves, afterLoad}
 use Rattle.link.specs.Runs.{afterEvent, afterAll, begun}
 use Rattle.link.specs.Fresh.{Paired, ItsSend, Fresh, runOf, AgeTheorem, Silence}
 use Rattle.link.proofs.Marks.{size}
-use Rattle.link.proofs.Ages.{compared, le-or-lt}
-use Rattle.link.proofs.Invariant.{limit, restM, Master, restS, Slave, Inv}
-use Rattle.link.proofs.Kept.{later}
-use Rattle.link.proofs.Relation.{termsOf, small-of, numbered, marks, Honest, Linked}
+use Rattle.link.proofs.Ages.{latest}
+use Rattle.link.proofs.Invariant.{limit, restM, noneM, Master, masterOf, restS, noneS, Slave, slaveOf, Inv}
+use Rattle.link.proofs.Kept.{later, later-called}
+use Rattle.link.proofs.Relation.{masterTerms, slaveTerms, small-of, numbered, marks, Honest, Linked}
 use Rattle.link.proofs.Ends.{at-master, at-slave}
 use Rattle.link.proofs.AtMaster.{shown-m}
 use Rattle.link.proofs.AtSlave.{shown-s, loaded-s}
@@ -38,40 +39,75 @@ use Rattle.link.proofs.Sends.{ShowsInv, reloaded, grow, add, sent-by}
 pub record RunInv (sm ss : Settings) (l : Link) : Type 0 where
   pub settings : Settings
   pub first : l .loads ≡ 0 → settings ≡ ss
-  pub linked : Linked (l .clocks) sm settings (l .loads) (l .given) (l .latest) (l .log) (l .master) (l .slave)
-      (l .masterTook) (l .slaveTook)
+  pub linked : Linked (l .shift) (l .readings) sm settings (l .loads) (l .given) (l .latest) (l .log) (l .master)
+      (l .slave) (l .masterTook) (l .slaveTook)
   pub shown : ShowsInv sm ss (l .loads) (l .log) (l .masterTook) (l .slaveTook) (l .shows)
 
--- time passes
-linked-later : {c : Clocks} {sm ss : Settings} {loads : ℕ} {given : List Grant} {now : ℕ} {log : List Sent}
-    {em es : Endpoint} {tm ts : ℕ} (m : ℕ) → now ≤ m → Linked c sm ss loads given now log em es tm ts
-    → Linked c sm ss loads given m log em es tm ts
-linked-later m h L = record {
-  master = L .master;
-  slave = L .slave;
-  paired = L .paired;
-  setM = L .setM;
-  setS = L .setS;
-  relM = L .relM;
-  relS = L .relS;
-  honest = L .honest;
-  inv = later (L .inv) m h;
-}
+-- time passes, to a call of the master or of the slave
+module _ {shift : ℕ} {calls : List Reading} {sm ss : Settings} {loads : ℕ} {given : List Grant} {now : ℕ}
+    {log : List Sent} {em es : Endpoint} {tm ts : ℕ}
+    (L : Linked shift calls sm ss loads given now log em es tm ts) where
+  until : {m : ℕ} {x : List Reading}
+      → Inv (masterTerms shift sm) (slaveTerms x ss) m given (marks log) (L .master) (L .slave)
+      → Linked shift x sm ss loads given m log em es tm ts
+  until v = record {
+    master = L .master;
+    slave = L .slave;
+    paired = L .paired;
+    setM = L .setM;
+    setS = L .setS;
+    relM = L .relM;
+    relS = L .relS;
+    honest = L .honest;
+    inv = v;
+  }
+
+  pub linked-later : (m : ℕ) → now ≤ m → Linked shift calls sm ss loads given m log em es tm ts
+  linked-later m h = until (later (L .inv) m h)
+
+  pub linked-called : (r : Reading) → now ≤ r .moment
+      → Linked shift (r ∷ calls) sm ss loads given (r .moment) log em es tm ts
+  linked-called r h = until (later-called (L .inv) r h)
 
 -- a master is paired with whatever settings are a slave's, as a loaded list has them
 pairs-too : {sm ss s : Settings} → Paired sm ss → isSlaves s ≡ true → Paired sm s
 pairs-too {s = s} p h =
-    let a = and-right (s .slave) _ h in
+    let o = and-right (s .slave) _ h in
+    let a = and-right (leb 1 (s .interval)) _ o in
     let b = and-right (leb (s .interval) 65535) _ a in
     record {
       master = p .master;
       slave = and-left (s .slave) _ h;
       ticksM = p .ticksM;
       ticksS = record {
+        some = leb-true 1 (s .interval) (and-left (leb 1 (s .interval)) _ o);
         interval = leb-true (s .interval) 65535 (and-left (leb (s .interval) 65535) _ a);
         roundtrip = leb-true (s .roundtrip) 65535 (and-left (leb (s .roundtrip) 65535) _ b);
         age = leb-true (s .age) 65535 (and-right (leb (s .roundtrip) 65535) _ b);
       };
+    }
+
+-- what a call that is allowed keeps to
+pub record Allowed (l : Link) (slave : Bool) (t other : ℕ) (call : Call) : Type 0 where
+  pub before : l .allowed ≡ true
+  pub delivers : mayDeliver (l .given) (l .log) call ≡ true
+  pub rises : l .latest ≤ momentOf (l .shift) slave t other
+  pub within : t ≤ limit
+  pub paced : isPaced l slave (record { tick = t; moment = momentOf (l .shift) slave t other }) ≡ true
+
+pub allowed-call : (l : Link) (slave : Bool) (t other : ℕ) (call : Call)
+    → afterEvent l (called slave t other call) .allowed ≡ true → Allowed l slave t other call
+allowed-call l slave t other call h =
+    let m = momentOf (l .shift) slave t other in
+    let a = and-right (l .allowed) _ h in
+    let b = and-right (mayDeliver (l .given) (l .log) call) _ a in
+    let c = and-right (neverFalls l m) _ b in
+    record {
+      before = and-left (l .allowed) _ h;
+      delivers = and-left (mayDeliver (l .given) (l .log) call) _ a;
+      rises = let z = leb-true _ m (and-left (neverFalls l m) _ b) in omega arith;
+      within = let z = leb-true t _ (and-left (isReading t) _ c) in omega arith;
+      paced = and-right (isReading t) _ c;
     }
 
 module _ (sm ss : Settings) where
@@ -81,43 +117,42 @@ module _ (sm ss : Settings) where
   quiet loads log tm ts shows v = subst (ShowsInv sm ss loads log tm ts) (sym (append-nil shows)) v
 
   -- at the slave's end or the master's, where the endpoint is e, has that role, and has settings of its own loading
-  module _ (slave : Bool) (loads : ℕ) (log : List Sent) (e : Endpoint) (tm ts m t : ℕ) (shows : List Show)
-      (role : e .settings .slave ≡ slave)
+  module _ (slave : Bool) (loads : ℕ) (log : List Sent) (tm ts m t : ℕ) (shows : List Show) (e : Endpoint)
+      (role : e .settings .slave ≡ slave) (few : e .settings .interval ≤ 65535)
       (own : (slave ≡ true → loads ≡ 0) → e .settings ≡ cond slave ss sm)
       (honest : (i : ℕ) → i < length log → Honest sm (sentAt log i))
-      (its : isExpired e t ≡ false → isFailSafe e ≡ false
-      → ShownAt (marks log) (cond slave 0 2) (cond slave ts tm) m (heldAge e t) (marginAt slave (e .settings))
-      (shownOf e))
       (v : ShowsInv sm ss loads log tm ts shows) where
     -- a show whose value has its send
-    shows-at : ShowsInv sm ss loads log tm ts
-        (shows ++ shownBy slave m t (cond slave ts tm) (length log) show (callOf e t show .endpoint))
-    shows-at =
+    shows-at : (isFailSafe e ≡ false → ShownAt (marks log) (cond slave 0 2) (cond slave ts tm) m (heldAge e t)
+        (marginAt slave (e .settings)) (shownOf e))
+        → ShowsInv sm ss loads log tm ts (shows ++ shownBy slave m t (cond slave ts tm) (length log) show e)
+    shows-at its =
         let x = shown slave (e .settings) m (shownOf e) (heldAge e t) (cond slave ts tm) (length log) in
-        bcase (isExpired e t) (λ x. rw x (quiet loads log tm ts shows v))
-        (λ n. rw n (bcase (isFailSafe e) (λ f. rw f (quiet loads log tm ts shows v))
+        bcase (isFailSafe e) (λ f. rw f (quiet loads log tm ts shows v))
         (λ f. subst (λ (y : List Show). ShowsInv sm ss loads log tm ts (shows ++ y))
         (sym (cond-false (isFailSafe e) [] (x ∷ []) f))
         (add sm ss loads log tm ts shows x
-        (sent-by sm (e .settings) log slave (cond slave ts tm) m (heldAge e t) (shownOf e) role honest (its n f)) own
-        refl v))))
+        (sent-by sm (e .settings) log slave (cond slave ts tm) m (heldAge e t) (shownOf e) role few honest (its f)) own
+        refl v))
 
     -- whatever the call; what it writes and takes comes after
-    adds : (call : Call) → ShowsInv sm ss loads log tm ts
+    adds : (isExpired e t ≡ false → isFailSafe e ≡ false → ShownAt (marks log) (cond slave 0 2) (cond slave ts tm) m
+        (heldAge e t) (marginAt slave (e .settings)) (shownOf e))
+        → (call : Call) → ShowsInv sm ss loads log tm ts
         (shows ++ shownBy slave m t (cond slave ts tm) (length log) call (callOf e t call .endpoint))
-    adds (act a) = quiet loads log tm ts shows v
-    adds (send value) = quiet loads log tm ts shows v
-    adds (deliver f body) = quiet loads log tm ts shows v
-    adds show = shows-at
+    adds its (act a) = quiet loads log tm ts shows v
+    adds its (send value) = quiet loads log tm ts shows v
+    adds its (deliver f body) = quiet loads log tm ts shows v
+    adds its show =
+        bcase (isExpired e t) (λ x. rw x (quiet loads log tm ts shows v)) (λ x. rw x (shows-at (its x)))
 
   -- ---- one event
-  step : (l : Link) (slave : Bool) (t : ℕ) (call : Call) → mayDeliver (l .given) (l .log) call ≡ true
-      → l .latest ≤ momentOf (l .clocks) slave t → t ≤ limit → RunInv sm ss l
-      → RunInv sm ss (afterEvent l (called slave t call))
-  step l false t call h k lim v =
-      let m = t + l .clocks .master in
+  at-m : (l : Link) (t other : ℕ) (call : Call) → mayDeliver (l .given) (l .log) call ≡ true
+      → l .latest ≤ t + l .shift → t ≤ limit → RunInv sm ss l → RunInv sm ss (afterEvent l (called false t other call))
+  at-m l t other call h k lim v =
+      let m = t + l .shift in
       let o = callOf (l .master) t call in
-      let L = linked-later m k (v .linked) in
+      let L = linked-later (v .linked) m k in
       let A = at-master t lim L call h in
       record {
         settings = v .settings;
@@ -126,15 +161,21 @@ module _ (sm ss : Settings) where
         shown = grow sm ss (l .loads) (l .log) (logged false m (l .loads) call (o .writes)) (l .masterTook)
             (l .slaveTook) (tookBy (l .log) call (o .answer) (l .masterTook)) (l .slaveTook)
             (l .shows ++ shownBy false m t (l .masterTook) (length (l .log)) call (o .endpoint)) (A .1) (omega arith)
-            (adds false (l .loads) (l .log) (l .master) (l .masterTook) (l .slaveTook) m t (l .shows)
-            (ap (λ (s : Settings). s .slave) (L .setM) ∙ L .paired .master) (λ f. L .setM) (L .honest)
-            (shown-m t lim L) (v .shown) call);
+            (adds false (l .loads) (l .log) (l .masterTook) (l .slaveTook) m t (l .shows) (l .master)
+            (ap (λ (s : Settings). s .slave) (L .setM) ∙ L .paired .master)
+            (subst (λ (s : Settings). s .interval ≤ 65535) (sym (L .setM)) (L .inv .smallM .hold)) (λ f. L .setM)
+            (L .honest) (v .shown) (shown-m t lim L) call);
       }
-  step l true t call h k lim v =
-      let m = t + l .clocks .slave in
+
+  at-s : (l : Link) (t other : ℕ) (call : Call) → mayDeliver (l .given) (l .log) call ≡ true → l .latest ≤ other
+      → t ≤ limit → keepsPace (l .readings) (record { tick = t; moment = other }) ≡ true → RunInv sm ss l
+      → RunInv sm ss (afterEvent l (called true t other call))
+  at-s l t m call h k lim paced v =
       let o = callOf (l .slave) t call in
-      let L = linked-later m k (v .linked) in
-      let A = at-slave t lim L call h in
+      let r : Reading = record { tick = t; moment = m } in
+      let L = linked-called (v .linked) r k in
+      let ti = latest (l .readings) r paced in
+      let A = at-slave t lim ti L call h in
       record {
         settings = v .settings;
         first = v .first;
@@ -142,40 +183,39 @@ module _ (sm ss : Settings) where
         shown = grow sm ss (l .loads) (l .log) (logged true m (l .loads) call (o .writes)) (l .masterTook)
             (l .slaveTook) (l .masterTook) (tookBy (l .log) call (o .answer) (l .slaveTook))
             (l .shows ++ shownBy true m t (l .slaveTook) (length (l .log)) call (o .endpoint)) (omega arith) (A .1)
-            (adds true (l .loads) (l .log) (l .slave) (l .masterTook) (l .slaveTook) m t (l .shows)
-            (ap (λ (s : Settings). s .slave) (L .setS) ∙ L .paired .slave) (λ f. L .setS ∙ v .first (f refl))
-            (L .honest) (shown-s t lim L) (v .shown) call);
+            (adds true (l .loads) (l .log) (l .masterTook) (l .slaveTook) m t (l .shows) (l .slave)
+            (ap (λ (s : Settings). s .slave) (L .setS) ∙ L .paired .slave)
+            (subst (λ (s : Settings). s .interval ≤ 65535) (sym (L .setS)) (L .inv .smallS .hold))
+            (λ f. L .setS ∙ v .first (f refl)) (L .honest) (v .shown) (shown-s t lim ti L) call);
       }
 
-  reload : (l : Link) (s : Settings) (number constant : ℕ) → isSlaves s ≡ true → RunInv sm ss l
-      → RunInv sm ss (afterLoad l s number constant)
-  reload l s number constant h v =
+  reload : (l : Link) (s : Settings) (number : ℕ) → isSlaves s ≡ true → RunInv sm ss l
+      → RunInv sm ss (afterLoad l s number)
+  reload l s number h v =
       record {
         settings = s;
         first = λ e. absurd (omega arith);
-        linked = loaded-s (v .linked) s (pairs-too (v .linked .paired) h) number constant;
+        linked = loaded-s (v .linked) s (pairs-too (v .linked .paired) h) number;
         shown = reloaded (v .shown);
       }
 
   -- ---- every list: what is allowed at the end was allowed all along
   allowed-before : (l : Link) (v : Event) → afterEvent l v .allowed ≡ true → l .allowed ≡ true
-  allowed-before l (called slave t call) h = and-left (l .allowed) _ h
-  allowed-before l (loaded s number constant) h = and-left (l .allowed) _ h
+  allowed-before l (called slave t other call) h = and-left (l .allowed) _ h
+  allowed-before l (loaded s number) h = and-left (l .allowed) _ h
 
   kept-allowed : (l : Link) (vs : List Event) → afterAll l vs .allowed ≡ true → l .allowed ≡ true
   kept-allowed l [] h = h
   kept-allowed l (v ∷ vs) h = allowed-before l v (kept-allowed (afterEvent l v) vs h)
 
   event : (l : Link) (v : Event) → afterEvent l v .allowed ≡ true → RunInv sm ss l → RunInv sm ss (afterEvent l v)
-  event l (called slave t call) h r =
-      let m = momentOf (l .clocks) slave t in
-      let a = and-right (l .allowed) _ h in
-      let b = and-right (mayDeliver (l .given) (l .log) call) _ a in
-      let rises : l .latest ≤ m = ⊎-elim (λ p. p)
-      (λ (p : m < l .latest). absurd (false≢true (simp compared at b))) (le-or-lt (l .latest) m) in
-      step l slave t call (and-left (mayDeliver (l .given) (l .log) call) _ a) rises
-      (omega (arith, leb-true t _ (simp compared at b))) r
-  event l (loaded s number constant) h r = reload l s number constant (and-right (l .allowed) _ h) r
+  event l (called false t other call) h r =
+      let a = allowed-call l false t other call h in
+      at-m l t other call (a .delivers) (a .rises) (a .within) r
+  event l (called true t other call) h r =
+      let a = allowed-call l true t other call h in
+      at-s l t other call (a .delivers) (a .rises) (a .within) (a .paced) r
+  event l (loaded s number) h r = reload l s number (and-right (l .allowed) _ h) r
 
   pub along : (l : Link) (vs : List Event) → afterAll l vs .allowed ≡ true → RunInv sm ss l
       → RunInv sm ss (afterAll l vs)
@@ -183,19 +223,18 @@ module _ (sm ss : Settings) where
   along l (v ∷ vs) h r = along (afterEvent l v) vs h (event l v (kept-allowed (afterEvent l v) vs h) r)
 
   -- ---- two endpoints just loaded
-  module _ (p : Paired sm ss) (number : ℕ) (c : Clocks) where
+  module _ (p : Paired sm ss) (number shift : ℕ) where
     abbrev first-m : Master
-    first-m = record { session = 0; floor = 0; nextOut = 0; nextIn = 0; held = 0; phase = restM }
+    first-m = masterOf 0 0 0 0 0 restM noneM
 
     abbrev first-s : Slave
-    first-s = record { number = number % 65536; epoch = 0; nextOut = 0; nextIn = 0; held = 0; phase = restS }
+    first-s = slaveOf (number % 65536) 0 0 0 0 restS noneS
 
-    nothing-yet : Inv (termsOf (c .master) sm) (termsOf (c .slave) ss) 0 (grant number 0 ∷ []) (marks []) first-m
-        first-s
+    nothing-yet : Inv (masterTerms shift sm) (slaveTerms [] ss) 0 (grant number 0 ∷ []) (marks []) first-m first-s
     unfolding marks size
     nothing-yet = record {
-      smallM = small-of (c .master) sm (p .ticksM);
-      smallS = small-of (c .slave) ss (p .ticksS);
+      smallM = small-of sm (p .ticksM);
+      smallS = small-of ss (p .ticksS);
       log = record {
         stamped = λ i h. absurd (not-suc-le-zero h);
         rising = λ i j h k. absurd (not-suc-le-zero k);
@@ -207,6 +246,7 @@ module _ (sm ss : Settings) where
         given = λ n e. absurd (omega arith);
         held = tt;
         phase = tt;
+        measuring = tt;
       };
       slave = record {
         epochs = λ i h. absurd (not-suc-le-zero h);
@@ -215,10 +255,11 @@ module _ (sm ss : Settings) where
         sent = λ i h. absurd (not-suc-le-zero h);
         held = tt;
         phase = tt;
+        measuring = tt;
       };
     }
 
-    pub at-first : RunInv sm ss (begun sm ss number c)
+    pub at-first : RunInv sm ss (begun sm ss number shift)
     at-first = record {
       settings = ss;
       first = λ e. refl;
@@ -272,16 +313,19 @@ module _ (sm ss : Settings) where
     own = r .shown .own;
   }
 
+pub run-inv : (sm ss : Settings) (number shift : ℕ) (vs : List Event) → Paired sm ss
+    → runOf sm ss number shift vs .allowed ≡ true → RunInv sm ss (runOf sm ss number shift vs)
+run-inv sm ss number shift vs p h = along sm ss (begun sm ss number shift) vs h (at-first sm ss p number shift)
+
 pub age-theorem : AgeTheorem
-age-theorem sm ss number c vs p h = fresh-of sm ss (runOf sm ss number c vs)
-    (along sm ss (begun sm ss number c) vs h (at-first sm ss p number c))
+age-theorem sm ss number shift vs p h =
+    fresh-of sm ss (runOf sm ss number shift vs) (run-inv sm ss number shift vs p h)
 
 pub silence : Silence
-silence sm ss number c vs slave last p h before i k e =
-    let r = along sm ss (begun sm ss number c) vs h (at-first sm ss p number c) in
-    let s = r .shown .its i k in
+silence sm ss number shift vs slave last p h before i k e =
+    let s = run-inv sm ss number shift vs p h .shown .its i k in
     let f = s .fits in
     let m = before (s .place) (let a = s .early in let b = s .known in omega arith) (f .other ∙ ap not e)
     (f .refresh) in
-    let y = f .aged .young in
+    let y = f .bounded in
     omega arith

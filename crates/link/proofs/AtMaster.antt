@@ -2,8 +2,9 @@
 use mathlib.Core.Path.{_≡_, refl, sym, ap, subst, _∙_}
 use mathlib.Core.Bool.{Bool, true, false, cond, true≢false, false≢true}
 use mathlib.Core.List.{List, [], _∷_, _++_}
-use mathlib.Core.Option.{Option, some, none}
-use Prim.Native.Nat.{ℕ, suc, _+_, _-_, _%_, _≤_}
+use mathlib.Core.Option.{some, none}
+use mathlib.Core.Logic.{⊎-elim}
+use Prim.Native.Nat.{ℕ, suc, _+_, _-_, _%_, _^_, _≤_, _<_}
 use native.Mathlib.Omega.{arith}
 use borrow.Author.Tests.{eqb-true}
 use Rattle.frame.specs.declared.Command.{Command}
@@ -18,53 +19,66 @@ use Rattle.endpoint.specs.declared.State.the-variants.{Close, Starting, Establi
 use Rattle.endpoint.specs.declared.State.the-variants.{FuncRunning, RefreshPending, Refresh, Terminate}
 use Rattle.endpoint.specs.declared.State.the-variants.{TerminateMore}
 use Rattle.endpoint.specs.declared.Timestamps.{Timestamps}
-use Rattle.endpoint.specs.declared.Pending.the-variants.{Nothing}
+use Rattle.endpoint.specs.declared.Pending.{Pending}
+use Rattle.endpoint.specs.declared.Pending.the-variants.{Nothing, Asked}
 use Rattle.endpoint.specs.declared.Queue.{Queue}
 use Rattle.endpoint.specs.declared.Station.{Station}
 use Rattle.endpoint.specs.Endpoint.{Endpoint, Words}
 use Rattle.endpoint.specs.Table.{isState, isSetup, nextOf, stateTo, requestOf}
-use Rattle.endpoint.specs.Due.{isWaiting, queuedIn, isCommandDue, requestDue}
-use Rattle.endpoint.specs.Time.{span, minus, isExpired, isAbove, endedOf, allowanceOf, countedAge, heldAge, timeOf}
-use Rattle.endpoint.specs.Time.{ageOf}
-use Rattle.transitions.specs.ByCall.{sessionFrom, startedOf, restartedOf, requestedOf, refreshSentOf, stoppedOf}
+use Rattle.endpoint.specs.Updates.{withPending, withMeasured, withAnswered}
+use Rattle.endpoint.specs.Due.{isWaiting, queuedIn, isCommandDue, requestDue, lastStep, refreshDue, awaitedIn}
+use Rattle.endpoint.specs.Time.{span, minus, isAbove, isTooFarAhead, isExpired, endedOf, allowanceOf, countedAge}
+use Rattle.endpoint.specs.Time.{heldAge, timeOf, ageOf}
+use Rattle.transitions.specs.ByCall.{sessionFrom, startedOf, restartedOf, requestedOf, refreshSentOf, measurementSentOf}
+use Rattle.transitions.specs.ByCall.{stoppedOf}
 use Rattle.transitions.specs.ByFrame.{refreshedOf, measuredBy, sessionBy, confirmedOf, dueAgainOf, performedOf}
-use Rattle.steps.specs.Frames.{setupData, dataOf, dueData, baselineOf, requestFields, refreshFields, disconnectFields}
+use Rattle.transitions.specs.ByFrame.{measurementBy, measurementHeardOf}
+use Rattle.steps.specs.Frames.{setupData, dataOf, dueData, baselineOf, requestFields, measurementFields, refreshFields}
 use Rattle.steps.specs.Calls.{isFailSafe, shownOf}
-use Rattle.steps.specs.Frames.{paddedOf, sessionOf, sessionWith}
-use Rattle.steps.specs.Laws.{RequestSent, RefreshSent, StopDone, ReplyTaken, RefreshTaken}
+use Rattle.steps.specs.Frames.{disconnectFields, paddedOf, sessionOf, sessionWith}
+use Rattle.steps.specs.Laws.{RequestSent, GoDue, MeasurementSent, RefreshSent, StopDone, ReplyTaken, MeasurementHeard}
+use Rattle.steps.specs.Laws.{RefreshTaken}
 use Rattle.steps.proofs.Dispatch.{cond-false}
 use Rattle.steps.proofs.Keeps.{bcase}
-use Rattle.link.specs.Runs.{Clocks, Sent, Grant}
+use Rattle.link.specs.Clocks.{Reading}
+use Rattle.link.specs.Runs.{Sent, sentAt, Grant}
 use Rattle.link.proofs.Marks.{Mark, mark, at, snoc, Has}
-use Rattle.link.proofs.Invariant.{limit, Terms, Master, MPhase, restM, asked, got, liveM, Inv, MPh, GoOf}
-use Rattle.link.proofs.Invariant.{marginM, phasedM, wroteM, connectedM, restartedM, frameM, HeldByM}
-use Rattle.link.proofs.Kept.{m-phase, m-restarts, m-connects, m-got, m-writes, m-asks, m-goes, m-takes}
-use Rattle.link.proofs.Kept.{held-rises-m}
-use Rattle.link.proofs.Relation.{termsOf, numbered, whoOf, markOf, marks, topOf, above-top, RelM}
-use Rattle.link.proofs.Relation.{Honest, Linked, setup-timer, refresh-timer, master-time, not-late, not-ahead}
-use Rattle.link.proofs.Relation.{toldOf, narrowed-again}
-use Rattle.link.proofs.Ages.{Young, young-more}
+use Rattle.link.proofs.Invariant.{limit, MasterTerms, SlaveTerms, Master, MPhase, restM, liveM, noneM}
+use Rattle.link.proofs.Invariant.{asked, got, Inv, MPh, GoOf, phasedM, wroteM, connectedM, restartedM}
+use Rattle.link.proofs.Invariant.{tookM, frameM, HeldByM}
+use Rattle.link.proofs.Kept.{m-phase, m-ends, m-restarts, m-connects, m-got, m-leaves, m-sends, m-asks, m-goes}
+use Rattle.link.proofs.Kept.{m-closes, m-takes, held-rises-m}
+use Rattle.link.proofs.Bounds.{shownM, m-shows, m-ahead}
+use Rattle.link.proofs.Relation.{masterTerms, slaveTerms, numbered, whoOf, markOf, marks, topOf, above-top, RelM}
+use Rattle.link.proofs.Relation.{LiveAtM, Honest, Linked, setup-timer, refresh-timer, go-timer, master-time}
+use Rattle.link.proofs.Relation.{too-far, master-allows, not-late, not-ahead, toldOf, narrowed-again}
+use Rattle.link.proofs.Ages.{Young}
 use Rattle.link.proofs.Entries.{marks-snoc, honest-snoc, is-eq, session-eq, Handed, in-log, the-mark}
 use Rattle.link.proofs.Entries.{marked-code, marked-stamp, marked-body, marked-session, marked-travels}
 use Rattle.link.proofs.Shown.{ShownAt, marginAt, in-refresh, held-shown}
 use Rattle.link.proofs.Codes.{go-due, go-baseline, due-not-refresh, setup-not-refresh, refresh-not-setup}
 use Rattle.link.proofs.Codes.{pending-setup, busy-due, command-due}
 
-module _ {c : Clocks} {sm ss : Settings} {loads : ℕ} {given : List Grant} {l : List Sent} {em es : Endpoint}
-    {tm ts : ℕ} (t : ℕ) (lim : t ≤ limit) (L : Linked c sm ss loads given (t + c .master) l em es tm ts) where
-  -- the terms of either end
-  abbrev TM : Terms
-  TM = termsOf (c .master) sm
+-- nothing is pending and something is
+nothing-asked : {A : Type 0} (p : Pending) (s : ℕ) → p ≡ Nothing → p ≡ Asked s → A
+nothing-asked p s h k = let z : _≡_ {A = ℕ} 0 1 = cc in absurd (omega arith)
 
-  abbrev TS : Terms
-  TS = termsOf (c .slave) ss
+module _ {shift : ℕ} {calls : List Reading} {sm ss : Settings} {loads : ℕ} {given : List Grant} {l : List Sent}
+    {em es : Endpoint} {tm ts : ℕ} (t : ℕ) (lim : t ≤ limit)
+    (L : Linked shift calls sm ss loads given (t + shift) l em es tm ts) where
+  -- the terms of either end
+  abbrev TM : MasterTerms
+  TM = masterTerms shift sm
+
+  abbrev TS : SlaveTerms
+  TS = slaveTerms calls ss
 
   -- what is kept, of the log, the endpoint and the place last taken
   abbrev AtM : List Sent → Endpoint → ℕ → Type 0
-  AtM x e n = Linked c sm ss loads given (t + c .master) x e es n ts
+  AtM x e n = Linked shift calls sm ss loads given (t + shift) x e es n ts
 
-  abbrev Phased : ℕ → MPhase → Type 0
-  Phased n f = MPh TM (t + c .master) (marks l) n (L .master .held) f
+  abbrev Phased : MPhase → Type 0
+  Phased f = MPh TM (t + shift) (marks l) (L .master .held) f
 
   role : em .settings .slave ≡ false
   role = ap (λ (s : Settings). s .slave) (L .setM) ∙ L .paired .master
@@ -74,7 +88,7 @@ module _ {c : Clocks} {sm ss : Settings} {loads : ℕ} {given : List Grant} {l :
 
   -- the endpoint becomes another, and nothing is written
   become : (e : Endpoint) {n : ℕ} {M : Master} → e .settings ≡ sm → RelM e n M
-      → Inv TM TS (t + c .master) given (marks l) M (L .slave) → AtM l e n
+      → Inv TM TS (t + shift) given (marks l) M (L .slave) → AtM l e n
   become e {n} {M} s r v = record {
     master = M;
     slave = L .slave;
@@ -98,7 +112,7 @@ module _ {c : Clocks} {sm ss : Settings} {loads : ℕ} {given : List Grant} {l :
     nextIn = i;
     held = h;
     live = λ h. absurd (true≢false (sym h ∙ r));
-    pend = λ h x d. let z : _≡_ {A = ℕ} 0 1 = let y = n h in cc in absurd (omega arith);
+    pend = λ h x d. nothing-asked (e .setup .pending) x (n h) d;
     ready = λ h d. absurd (true≢false (sym h ∙ k));
   }
 
@@ -111,8 +125,8 @@ module _ {c : Clocks} {sm ss : Settings} {loads : ℕ} {given : List Grant} {l :
   rest e s m o i r n k =
       let q = L .relM in
       become e s
-      (idle e (phasedM (L .master) restM) (m ∙ q .session) (o ∙ q .nextOut) (i ∙ q .nextIn) (q .held) r n k)
-      (m-phase (L .inv) restM tt)
+      (idle e (phasedM (L .master) restM noneM) (m ∙ q .session) (o ∙ q .nextOut) (i ∙ q .nextIn) (q .held) r n k)
+      (m-phase (L .inv) restM noneM tt tt)
 
   pub ended-m : AtM l (endedOf em) tm
   ended-m = rest (endedOf em) (L .setM) refl refl refl refl (λ h. absurd (false≢true h)) refl
@@ -139,11 +153,54 @@ module _ {c : Clocks} {sm ss : Settings} {loads : ℕ} {given : List Grant} {l :
         nextOut = r .nextOut;
         nextIn = r .nextIn;
         held = r .held;
-        live = λ h. let v = r .live h in record { value = v .value; phase = v .phase; holds = v .holds };
-        pend = λ h y d. let a = r .pend h y d in record { since = a .since; phase = a .phase };
-        ready = λ h d. let g = r .ready h d in record { phase = g .phase; since = g .since };
+        live = λ h. let v = r .live h in record {
+          value = v .value;
+          phase = v .phase;
+          holds = v .holds;
+          asks = v .asks;
+          closes = v .closes;
+        };
+        pend = λ h y d. let a = r .pend h y d in
+            record { since = a .since; rests = a .rests; measuring = a .measuring };
+        ready = λ h d. let g = r .ready h d in record { measuring = g .measuring; since = g .since };
       })
       (L .inv)
+
+  -- in Refresh: what a step leaves that changes at most the measurement
+  module _ (r : isState (em .state) Refresh ≡ true) where
+    no-setup : {A : Type 0} → isSetup (em .state) ≡ true → A
+    no-setup h = absurd (true≢false (sym h ∙ refresh-not-setup (em .state) r))
+
+    still-live : (e : Endpoint) (M : Master) → e .state ≡ em .state → numbered (sessionOf e) ≡ M .session
+        → topOf (e .timestamps .sent) ≡ M .nextOut → topOf (e .timestamps .accepted) ≡ M .nextIn → tm ≡ M .held
+        → LiveAtM e M → RelM e tm M
+    still-live e M s n o i h v = record {
+      session = n;
+      nextOut = o;
+      nextIn = i;
+      held = h;
+      live = λ x. v;
+      pend = λ x. no-setup (ap isSetup (sym s) ∙ x);
+      ready = λ x. no-setup (ap isSetup (sym s) ∙ pending-setup (e .state) x);
+    }
+
+    -- a measurement ends: none is under way
+    closed-m : AtM l (withPending Nothing (withAnswered false em)) tm
+    closed-m =
+        let q = L .relM in
+        let v = q .live r in
+        let o = withPending Nothing (withAnswered false em) in
+        let M = phasedM (L .master) (L .master .phase) noneM in
+        become o {M = M} (L .setM)
+        (still-live o M refl (q .session) (q .nextOut) (q .nextIn) (q .held)
+        (record {
+          value = v .value;
+          phase = v .phase;
+          holds = v .holds;
+          asks = λ a s y. nothing-asked Nothing s refl y;
+          closes = λ a. absurd (false≢true a);
+        }))
+        (m-ends (L .inv))
 
   -- the mark of a frame that is written, of whatever session
   abbrev written : ℕ → ℕ → List ℕ → Subconnection → Mark
@@ -161,13 +218,12 @@ module _ {c : Clocks} {sm ss : Settings} {loads : ℕ} {given : List Grant} {l :
       omega arith
 
   -- the endpoint is then another
-  wrote : (e : Endpoint) (w : Sent) (code baseline : ℕ) (body : List ℕ) (n : Subconnection) (phase : MPhase)
+  wrote : (e : Endpoint) (w : Sent) (code baseline : ℕ) (body : List ℕ) (n : Subconnection) (M : Master)
       → e .settings ≡ sm → markOf w ≡ written code baseline body n → Honest sm w
-      → Inv TM TS (t + c .master) given (snoc (marks l) (written code baseline body n)) (wroteM (L .master) t phase)
-      (L .slave)
-      → RelM e tm (wroteM (L .master) t phase) → AtM (l ++ (w ∷ [])) e tm
-  wrote e w code baseline body n phase s m h v r = record {
-    master = wroteM (L .master) t phase;
+      → Inv TM TS (t + shift) given (snoc (marks l) (written code baseline body n)) M (L .slave) → RelM e tm M
+      → AtM (l ++ (w ∷ [])) e tm
+  wrote e w code baseline body n M s m h v r = record {
+    master = M;
     slave = L .slave;
     paired = L .paired;
     setM = s;
@@ -175,16 +231,19 @@ module _ {c : Clocks} {sm ss : Settings} {loads : ℕ} {given : List Grant} {l :
     relM = r;
     relS = L .relS;
     honest = honest-snoc sm l w (L .honest) h;
-    inv = subst (λ x. Inv TM TS (t + c .master) given x (wroteM (L .master) t phase) (L .slave))
-        (sym (marks-snoc l w ∙ ap (snoc (marks l)) m)) v;
+    inv = subst (λ x. Inv TM TS (t + shift) given x M (L .slave)) (sym (marks-snoc l w ∙ ap (snoc (marks l)) m)) v;
   }
+
+  -- OBL has 16 bits
+  few : em .settings .roundtrip ≤ 65535
+  few = subst (λ (s : Settings). s .roundtrip ≤ 65535) (sym (L .setM)) (L .inv .smallM .trip)
 
   -- the request that is due
   module _ (value : List ℕ) (d : RequestSent em t value) (x : isExpired em t ≡ false) where
     abbrev pub asking : Sent
     asking = record {
       slave = false;
-      moment = t + c .master;
+      moment = t + shift;
       loads = loads;
       fields = requestFields em t;
       body = dueData em;
@@ -201,7 +260,7 @@ module _ {c : Clocks} {sm ss : Settings} {loads : ℕ} {given : List Grant} {l :
     session = sessionWith em (requestDue em)
 
     asked-mark : markOf asking ≡ written code baseline (dueData em) session
-    asked-mark = λ i. mark 0 code (time i) baseline (t + c .master) (dueData em) (numbered session) (ep i)
+    asked-mark = λ i. mark 0 code (time i) baseline (t + shift) (dueData em) (numbered session) (ep i)
 
     -- an S-Connect request carries none
     asked-session : (b : Bool) → narrowed (cond b Absent (sessionOf em)) ≡ cond b Absent (sessionOf em)
@@ -224,19 +283,19 @@ module _ {c : Clocks} {sm ss : Settings} {loads : ℕ} {given : List Grant} {l :
         let g = L .relM .ready k (d .idle) in
         let b = go-baseline t (em .setup .measured) (em .setup .queue) (em .state) k in
         let u = setup-timer em t x (d .setup) in
-        let r : em .settings .roundtrip ≤ 65535 = subst (λ (s : Settings). s .roundtrip ≤ 65535) (sym (L .setM))
-        (L .inv .smallM .trip) in
+        let r = few in
         let i = g .since in
-        m-goes (L .inv) t (em .setup .measured) code baseline (dueData em) (numbered session) (g .phase) refl
+        m-goes (L .inv) t (em .setup .measured) code baseline (dueData em) (numbered session) (g .measuring) refl
         (above-sent (d .above)) (omega arith)
 
     pub requested-m : AtM (l ++ (asking ∷ [])) (requestedOf em t) tm
     requested-m =
         let q = L .relM in
         let n = setup-not-refresh (em .state) (d .setup) in
-        wrote (requestedOf em t) asking code baseline (dueData em) session (asked t) (L .setM) asked-mark asked-honest
-        (m-asks (L .inv) t code baseline (dueData em) (numbered session) refl (omega arith) (above-sent (d .above))
-        go-asked)
+        wrote (requestedOf em t) asking code baseline (dueData em) session (wroteM (L .master) t restM (asked t))
+        (L .setM) asked-mark asked-honest
+        (m-asks (L .inv) t code baseline (dueData em) (numbered session) restM refl (omega arith)
+        (above-sent (d .above)) go-asked tt)
         (record {
           session = q .session;
           nextOut = ap suc time;
@@ -244,16 +303,17 @@ module _ {c : Clocks} {sm ss : Settings} {loads : ℕ} {given : List Grant} {l :
           held = q .held;
           live = λ h. absurd (true≢false (sym h ∙ n));
           pend = λ h s e. let z : s ≡ t = (let y : timeOf em t ≡ s = cc in sym y ∙ time) in record
-              { since = z; phase = ap asked (sym z) };
-          ready = λ h e. let z : _≡_ {A = ℕ} 0 1 = cc in absurd (omega arith);
+              { since = z; rests = refl; measuring = ap asked (sym z) };
+          ready = λ h e. nothing-asked (Asked (timeOf em t)) (timeOf em t) e refl;
         })
 
+  -- ---- in Refresh
   -- S-Refresh with the lent value
   module _ (value : List ℕ) (d : RefreshSent em t value) where
     abbrev pub refreshing : Sent
     refreshing = record {
       slave = false;
-      moment = t + c .master;
+      moment = t + shift;
       loads = loads;
       fields = refreshFields em t;
       body = value;
@@ -261,18 +321,14 @@ module _ {c : Clocks} {sm ss : Settings} {loads : ℕ} {given : List Grant} {l :
     }
 
     refresh-mark : markOf refreshing ≡ written 255 0 value (sessionOf em)
-    refresh-mark = λ i. mark (cond (role i) 2 0) 255 (time i) 0 (t + c .master) value (numbered (sessionOf em)) (ep i)
-
-    live-again : (f : MPhase) (v : Option (List ℕ)) → f ≡ liveM (em .since) (em .value .age) v
-        → Phased (L .master .nextOut) f → Phased (suc t) f
-    live-again f v e h = subst (Phased (suc t)) (sym e) (subst (Phased (L .master .nextOut)) e h)
+    refresh-mark = λ i. mark (cond (role i) 2 0) 255 (time i) 0 (t + shift) value (numbered (sessionOf em)) (ep i)
 
     pub refresh-sent-m : AtM (l ++ (refreshing ∷ [])) (refreshSentOf em t) tm
     refresh-sent-m =
         let q = L .relM in
         let v = q .live (d .refresh) in
-        let n = refresh-not-setup (em .state) (d .refresh) in
-        wrote (refreshSentOf em t) refreshing 255 0 value (sessionOf em) (L .master .phase) (L .setM) refresh-mark
+        let M = wroteM (L .master) t (L .master .phase) (L .master .measuring) in
+        wrote (refreshSentOf em t) refreshing 255 0 value (sessionOf em) M (L .setM) refresh-mark
         (record {
           writer = role;
           value = λ h. refl;
@@ -280,25 +336,99 @@ module _ {c : Clocks} {sm ss : Settings} {loads : ℕ} {given : List Grant} {l :
           session = narrowed-again (em .session);
           confirms = λ a h. absurd (false≢true h);
         })
-        (m-writes (L .inv) t 255 0 value (numbered (sessionOf em)) (L .master .phase) refl (omega arith)
-        (above-sent (d .above)) (λ h. absurd (omega arith))
-        (live-again (L .master .phase) (v .value) (v .phase) (L .inv .master .phase)))
+        (m-sends (L .inv) t 255 value (numbered (sessionOf em)) refl (omega arith) (above-sent (d .above))
+        (λ h. omega arith) (λ h. omega arith))
+        (still-live (d .refresh) (refreshSentOf em t) M refl (q .session) (ap suc time) (q .nextIn) (q .held)
+        (record { value = v .value; phase = v .phase; holds = v .holds; asks = v .asks; closes = v .closes }))
+
+  -- S-RefreshMO, or S-RefreshGO once it was answered
+  module _ (value : List ℕ) (d : MeasurementSent em t value) where
+    abbrev pub measuring : Command → Sent
+    measuring k = record {
+      slave = false;
+      moment = t + shift;
+      loads = loads;
+      fields = measurementFields em k t;
+      body = setupData (em .settings) k;
+      lent = some value;
+    }
+
+    measuring-mark : (k : Command) → markOf (measuring k)
+        ≡ written (codeOf k) (baselineOf k t (em .setup .measured)) (setupData (em .settings) k) (sessionOf em)
+    measuring-mark k = λ i. mark 0 (codeOf k) (time i) (baselineOf k t (em .setup .measured)) (t + shift)
+        (setupData (em .settings) k) (numbered (sessionOf em)) (ep i)
+
+    measuring-honest : (k : Command) → is k K.Refresh ≡ false → is k K.ConfirmNetwork ≡ false
+        → Honest sm (measuring k)
+    measuring-honest k r n = record {
+      writer = refl;
+      value = λ h. absurd (true≢false (sym h ∙ r));
+      busy = λ h. absurd (false≢true h);
+      session = narrowed-again (em .session);
+      confirms = λ a h. absurd (true≢false (sym h ∙ n));
+    }
+
+    -- what is kept of a frame that is written, by its command
+    abbrev Measured : Command → Type 0
+    Measured k = AtM (l ++ (measuring k ∷ [])) (measurementSentOf em k t) tm
+
+    -- another measurement begins; a late one may still stand
+    mo-sent : Measured K.RefreshMo
+    mo-sent =
+        let q = L .relM in
+        let v = q .live (d .refresh) in
+        let M = wroteM (L .master) t (L .master .phase) (asked t) in
+        wrote (measurementSentOf em K.RefreshMo t) (measuring K.RefreshMo) 253 0 _ (sessionOf em) M (L .setM)
+        (measuring-mark K.RefreshMo) (measuring-honest K.RefreshMo refl refl)
+        (m-asks (L .inv) t 253 0 (setupData (em .settings) K.RefreshMo) (numbered (sessionOf em)) (L .master .phase)
+        refl (omega arith) (above-sent (d .above)) (λ h. absurd (omega arith)) (L .inv .master .phase))
+        (still-live (d .refresh) (measurementSentOf em K.RefreshMo t) M refl (q .session) (ap suc time) (q .nextIn)
+        (q .held)
         (record {
-          session = q .session;
-          nextOut = ap suc time;
-          nextIn = q .nextIn;
-          held = q .held;
-          live = λ h. record { value = v .value; phase = v .phase; holds = v .holds };
-          pend = λ h s e. absurd (true≢false (sym h ∙ n));
-          ready = λ h e. absurd (true≢false (sym (pending-setup (em .state) h) ∙ n));
-        })
+          value = v .value;
+          phase = v .phase;
+          holds = v .holds;
+          asks = λ y s e. let z : s ≡ t = (let y : timeOf em t ≡ s = cc in sym y ∙ time) in ap asked (sym z);
+          closes = λ y. absurd (false≢true y);
+        }))
+
+    go-sent : GoDue em t → Measured K.RefreshGo
+    go-sent w =
+        let q = L .relM in
+        let v = q .live (d .refresh) in
+        let M = wroteM (L .master) t (L .master .phase) noneM in
+        let m2 = em .setup .measured in
+        let last : lastStep (em .setup .pending) m2 ≡ m2 = ap (λ (p : Pending). lastStep p m2) (w .idle) in
+        let u = go-timer em t (w .due) in
+        let r = few in
+        let b : (t - m2) % 65536 ≡ t - m2 = omega arith in
+        wrote (measurementSentOf em K.RefreshGo t) (measuring K.RefreshGo) 254 (t - m2) _ (sessionOf em) M (L .setM)
+        (measuring-mark K.RefreshGo
+        ∙ ap (λ (o : ℕ). written 254 o (setupData (em .settings) K.RefreshGo) (sessionOf em)) b)
+        (measuring-honest K.RefreshGo refl refl)
+        (m-closes (L .inv) t m2 (setupData (em .settings) K.RefreshGo) (numbered (sessionOf em))
+        (v .closes (w .answered) (w .idle)) refl (omega arith) (above-sent (d .above)))
+        (still-live (d .refresh) (measurementSentOf em K.RefreshGo t) M refl (q .session) (ap suc time) (q .nextIn)
+        (q .held)
+        (record {
+          value = v .value;
+          phase = v .phase;
+          holds = v .holds;
+          asks = λ y. absurd (true≢false (sym (w .answered) ∙ y));
+          closes = λ y e. nothing-asked (Asked (timeOf em t)) (timeOf em t) e refl;
+        }))
+
+    pub measurement-sent-m : Measured (refreshDue em t)
+    measurement-sent-m =
+        ⊎-elim (λ (w : GoDue em t). subst Measured (sym (w .due)) (go-sent w)) (λ q. subst Measured (sym q) mo-sent)
+        (d .due)
 
   -- S-Disconnect
   module _ (d : StopDone em t) where
     abbrev pub leaving : Sent
     leaving = record {
       slave = false;
-      moment = t + c .master;
+      moment = t + shift;
       loads = loads;
       fields = disconnectFields em t;
       body = setupData (em .settings) K.Disconnect;
@@ -309,7 +439,7 @@ module _ {c : Clocks} {sm ss : Settings} {loads : ℕ} {given : List Grant} {l :
     zero-word = setupData (em .settings) K.Disconnect
 
     leaving-mark : markOf leaving ≡ written 249 0 zero-word (sessionOf em)
-    leaving-mark = λ i. mark 0 249 (time i) 0 (t + c .master) zero-word (numbered (sessionOf em)) (ep i)
+    leaving-mark = λ i. mark 0 249 (time i) 0 (t + shift) zero-word (numbered (sessionOf em)) (ep i)
 
     stop-stamp : topOf (stoppedOf em t .timestamps .sent) ≡ suc t
     stop-stamp = ap (λ (b : Timestamps). topOf (b .sent)) (cond-false (em .settings .slave) _ _ role) ∙ ap suc time
@@ -320,7 +450,8 @@ module _ {c : Clocks} {sm ss : Settings} {loads : ℕ} {given : List Grant} {l :
     pub stopped-m : AtM (l ++ (leaving ∷ [])) (stoppedOf em t) tm
     stopped-m =
         let q = L .relM in
-        wrote (stoppedOf em t) leaving 249 0 zero-word (sessionOf em) restM (L .setM) leaving-mark
+        wrote (stoppedOf em t) leaving 249 0 zero-word (sessionOf em) (wroteM (L .master) t restM noneM) (L .setM)
+        leaving-mark
         (record {
           writer = refl;
           value = λ h. absurd (false≢true h);
@@ -328,9 +459,9 @@ module _ {c : Clocks} {sm ss : Settings} {loads : ℕ} {given : List Grant} {l :
           session = narrowed-again (em .session);
           confirms = λ a h. absurd (false≢true h);
         })
-        (m-writes (L .inv) t 249 0 zero-word (numbered (sessionOf em)) restM refl (omega arith)
-        (above-sent (d .above role)) (λ h. absurd (omega arith)) tt)
-        (idle (stoppedOf em t) (wroteM (L .master) t restM) (q .session) stop-stamp (stop-accepted ∙ q .nextIn)
+        (m-leaves (L .inv) t 249 zero-word (numbered (sessionOf em)) refl (omega arith) (above-sent (d .above role))
+        (λ h. omega arith))
+        (idle (stoppedOf em t) (wroteM (L .master) t restM noneM) (q .session) stop-stamp (stop-accepted ∙ q .nextIn)
         (q .held) refl (λ h. absurd (false≢true h)) refl)
 
   -- ---- a frame of the log, at place k, that the slave wrote
@@ -392,7 +523,7 @@ module _ {c : Clocks} {sm ss : Settings} {loads : ℕ} {given : List Grant} {l :
             ∙ sym (marked-session g))
             (q .nextOut) (q .nextIn) (q .held) (ap (λ (y : State). isState y Refresh) (leads-to Starting e))
             (λ z. refl) (ap (λ (y : State). isState y RefreshPending) (leads-to Starting e)))
-            (m-connects (L .inv) (f .timestamp) k (a .phase) (in-log g) marked-reply (marked-stamp g))
+            (m-connects (L .inv) (f .timestamp) k (a .rests) (a .measuring) (in-log g) marked-reply (marked-stamp g))
 
         -- S-RefreshReady's: m2
         ready-m : (s : State) → em .state ≡ s → requestOf s ≡ K.RefreshReady
@@ -415,28 +546,37 @@ module _ {c : Clocks} {sm ss : Settings} {loads : ℕ} {given : List Grant} {l :
               nextIn = q .nextIn;
               held = q .held;
               live = λ z. absurd (false≢true (sym (ap (λ (y : State). isState y Refresh) s2) ∙ z));
-              pend = λ z y o. let v : _≡_ {A = ℕ} 0 1 = cc in absurd (omega arith);
-              ready = λ z y. record { phase = ap got (sym m2); since = sym m2 };
+              pend = λ z y o. nothing-asked Nothing y refl o;
+              ready = λ z y. record { measuring = ap got (sym m2); since = sym m2 };
             })
-            (m-got (L .inv) t (f .timestamp) k (a .phase) (omega arith) (omega arith) (in-log g) marked-reply
-            (marked-code g ∙ ap codeOf (due ∙ due-ready)) (marked-stamp g))
+            (m-got (L .inv) t (f .timestamp) k (a .measuring) (omega arith) (omega arith) (in-log g) marked-reply
+            (let n = marked-code g ∙ ap codeOf (due ∙ due-ready) in record { from = omega arith; to = omega arith })
+            (marked-stamp g))
 
         -- S-RefreshGO's: Refresh
         go-m : em .state ≡ RefreshPending → AtM l (confirmedOf em t f) tm
         go-m e =
             let q = L .relM in
             let s2 : confirmedOf em t f .state ≡ Refresh = leads-to RefreshPending e in
-            become (confirmedOf em t f) {M = phasedM (L .master) (liveM t 0 none)} (L .setM)
+            let entered : confirmedOf em t f .measurement .answered ≡ false =
+            ap (λ (y : Command). measurementBy y t (em .measurement) .answered) (next-due ∙ ap requestOf e) in
+            become (confirmedOf em t f) {M = phasedM (L .master) (liveM t 0 none) noneM} (L .setM)
             (record {
               session = keeps-session RefreshPending e refl ∙ q .session;
               nextOut = q .nextOut;
               nextIn = q .nextIn;
               held = q .held;
-              live = λ z. record { value = none; phase = refl; holds = refl };
-              pend = λ z y o. let v : _≡_ {A = ℕ} 0 1 = cc in absurd (omega arith);
+              live = λ z. record {
+                value = none;
+                phase = refl;
+                holds = refl;
+                asks = λ a y o. nothing-asked Nothing y refl o;
+                closes = λ a. absurd (false≢true (sym entered ∙ a));
+              };
+              pend = λ z y o. nothing-asked Nothing y refl o;
               ready = λ z y. absurd (false≢true (sym (ap (λ (y : State). isState y RefreshPending) s2) ∙ z));
             })
-            (m-phase (L .inv) (liveM t 0 none) (omega arith, tt))
+            (m-phase (L .inv) (liveM t 0 none) noneM (omega arith, tt) tt)
 
         confirmed : (s : State) → em .state ≡ s → isSetup s ≡ true
             → AtM l (confirmedOf em t f) tm
@@ -479,94 +619,151 @@ module _ {c : Clocks} {sm ss : Settings} {loads : ℕ} {given : List Grant} {l :
           bcase (f .busy) (λ b. subst (λ (y : Bool). Heard y (isCommandDue em)) (sym b) (due-again b))
           (λ b. subst (λ (y : Bool). Heard y (isCommandDue em)) (sym b) (sound (isCommandDue em) refl))
 
+    -- in Refresh the reply awaited of the measurement under way
+    module _ (r : isState (em .state) Refresh ≡ true) (d : MeasurementHeard em t f body) where
+      abbrev Heard′ : Command → Type 0
+      Heard′ k =
+          AtM l (cond (is k K.RefreshMo) (withPending Nothing (withMeasured t (withAnswered true em)))
+          (withPending Nothing (withAnswered false em))) tm
+
+      -- m2, and S-RefreshGO is due
+      mo-heard : em .measurement .answered ≡ false → f .command ≡ K.RefreshMo → Heard′ K.RefreshMo
+      mo-heard a e =
+          let q = L .relM in
+          let v = q .live r in
+          let o = withPending Nothing (withMeasured t (withAnswered true em)) in
+          let M = phasedM (L .master) (L .master .phase) (got t) in
+          let st = f .timestamp in
+          let p = d .pending in
+          let u = d .timely in
+          let R : em .settings .roundtrip ≡ sm .roundtrip = ap (λ (y : Settings). y .roundtrip) (L .setM) in
+          become o {M = M} (L .setM)
+          (still-live r o M refl (q .session) (q .nextOut) (q .nextIn) (q .held)
+          (record {
+            value = v .value;
+            phase = v .phase;
+            holds = v .holds;
+            asks = λ y. absurd (true≢false y);
+            closes = λ y z. refl;
+          }))
+          (m-got (L .inv) t st k (v .asks a st p) (omega arith) (omega arith) (in-log g)
+          (ap (λ (y : Mark). y .who) (the-mark g) ∙ who-is false (ap (λ (y : Command). is y K.Refresh) e))
+          (let n = marked-code g ∙ ap codeOf e in record { from = omega arith; to = omega arith }) (marked-stamp g))
+
+      pub measurement-heard-m : AtM l (measurementHeardOf em t f) tm
+      measurement-heard-m = by (em .measurement .answered) refl
+        where
+          by : (b : Bool) → em .measurement .answered ≡ b → AtM l (measurementHeardOf em t f) tm
+          by true a =
+              let e : f .command ≡ K.RefreshGo = is-eq (f .command) (awaitedIn em) (d .command)
+              ∙ ap (λ (y : Bool). cond y K.RefreshGo K.RefreshMo) a in
+              subst Heard′ (sym e) (closed-m r)
+          by false a =
+              let e : f .command ≡ K.RefreshMo = is-eq (f .command) (awaitedIn em) (d .command)
+              ∙ ap (λ (y : Bool). cond y K.RefreshGo K.RefreshMo) a in
+              subst Heard′ (sym e) (mo-heard a e)
+
     -- an S-Refresh of the slave
-    module _ (d : RefreshTaken em t (f .subconnection) (f .timestamp) body) (r : is (f .command) K.Refresh ≡ true) where
+    module _ (r : is (f .command) K.Refresh ≡ true) where
       marked-who : at (marks l) k .who ≡ 2
       marked-who = ap (λ (y : Mark). y .who) (the-mark g) ∙ who-is true r
-
-      -- it has the master's number
-      marked-own : at (marks l) k .session ≡ L .master .session
-      marked-own =
-          marked-session g ∙ ap numbered (sym (session-eq (sessionOf em) (f .subconnection) (d .session)))
-          ∙ L .relM .session
-
-      -- a master allows no more than R ahead
-      allows : allowanceOf (em .settings) ≤ em .settings .roundtrip
-      allows = rw role (omega arith)
 
       reckoned : ageOf em t (f .timestamp) ≡ minus (t % span) (at (marks l) k .stamp)
       reckoned =
           ap (λ (y : ℕ). minus y (f .timestamp)) (time ∙ omega arith)
           ∙ ap (minus (t % span)) (sym (marked-stamp g))
 
-      young : Young (minus (t % span) (at (marks l) k .stamp)) (sm .roundtrip) (sm .age)
-      young =
-          let a = reckoned in
-          let w = allows in
+      -- a master allows R and 3 ahead
+      allowance : allowanceOf (em .settings) ≡ sm .roundtrip + 3
+      allowance =
           let r : em .settings .roundtrip ≡ sm .roundtrip = ap (λ (y : Settings). y .roundtrip) (L .setM) in
-          let g : em .settings .age ≡ sm .age = ap (λ (y : Settings). y .age) (L .setM) in
-          record {
-            early = λ h. let z = not-ahead (ageOf em t (f .timestamp)) (allowanceOf (em .settings)) (d .near)
-                (omega arith) in omega arith;
-            late = let y = ap countedAge a in
-                let z = not-late (ageOf em t (f .timestamp)) (em .settings .age) (d .young) in
-                omega arith;
-          }
+          master-allows (em .settings) role ∙ omega arith
 
-      pub rises-m : tm ≤ k
-      rises-m =
-          let q = L .relM in
-          let a = above-top (em .timestamps .accepted) (f .timestamp) (d .above) in
-          let i = q .nextIn in
-          let s = marked-stamp g in
-          let z = held-rises-m (L .inv) k (in-log g) marked-who (omega arith) marked-own (marked-travels g) in
-          let h = q .held in
-          omega arith
+      -- refused as too far ahead it is very old
+      pub ahead-m : isTooFarAhead (ageOf em t (f .timestamp)) (allowanceOf (em .settings)) ≡ true
+          → sentAt l k .moment + 2 ^ 46 < t + shift
+      ahead-m h =
+          let y = too-far (ageOf em t (f .timestamp)) (allowanceOf (em .settings)) h in
+          let a = reckoned in
+          let w = allowance in
+          let o = ap (λ (x : Mark). x .moment) (the-mark g) in
+          ⊎-elim (λ z. absurd (omega arith)) (λ z. omega arith)
+          (m-ahead (L .inv) t k refl (omega arith) (in-log g) marked-who (omega arith))
 
-      pub refreshed-m : AtM l (refreshedOf em t (f .timestamp) (paddedOf body)) (suc k)
-      refreshed-m =
-          let q = L .relM in
-          let a = above-top (em .timestamps .accepted) (f .timestamp) (d .above) in
-          let i = q .nextIn in
-          let s = marked-stamp g in
-          let n = refresh-not-setup (em .state) (d .refresh) in
-          let b = marked-body g in
-          become (refreshedOf em t (f .timestamp) (paddedOf body)) (L .setM)
-          (record {
-            session = q .session;
-            nextOut = q .nextOut;
-            nextIn = ap suc (sym (marked-stamp g));
-            held = refl;
-            live = λ z. record {
-              value = some body;
-              phase = λ j. liveM t (countedAge (sym reckoned j)) (some (b j));
-              holds = (refl, refl, d .width);
-            };
-            pend = λ z y o. absurd (true≢false (sym z ∙ n));
-            ready = λ z y. absurd (true≢false (sym (pending-setup (em .state) z) ∙ n));
-          })
-          (m-takes (L .inv) t k refl (omega arith) (in-log g) marked-who
-          (marked-code g ∙ eqb-true (codeOf (f .command)) 255 r) (omega arith)
-          (young-more _ _ _ _ (omega arith) young) marked-own)
+      module _ (d : RefreshTaken em t (f .subconnection) (f .timestamp) body) where
+        -- it has the master's number
+        marked-own : at (marks l) k .session ≡ L .master .session
+        marked-own =
+            marked-session g ∙ ap numbered (sym (session-eq (sessionOf em) (f .subconnection) (d .session)))
+            ∙ L .relM .session
+
+        young : Young (minus (t % span) (at (marks l) k .stamp)) (sm .roundtrip + 3) (sm .age)
+        young =
+            let a = reckoned in
+            let w = allowance in
+            let g : em .settings .age ≡ sm .age = ap (λ (y : Settings). y .age) (L .setM) in
+            record {
+              early = λ h. let z = not-ahead (ageOf em t (f .timestamp)) (allowanceOf (em .settings)) (d .near)
+                  (omega arith) in omega arith;
+              late = let y = ap countedAge a in
+                  let z = not-late (ageOf em t (f .timestamp)) (em .settings .age) (d .young) in
+                  omega arith;
+            }
+
+        pub rises-m : tm ≤ k
+        rises-m =
+            let q = L .relM in
+            let a = above-top (em .timestamps .accepted) (f .timestamp) (d .above) in
+            let i = q .nextIn in
+            let s = marked-stamp g in
+            let z = held-rises-m (L .inv) k (in-log g) marked-who (omega arith) marked-own (marked-travels g) in
+            let h = q .held in
+            omega arith
+
+        pub refreshed-m : AtM l (refreshedOf em t (f .timestamp) (paddedOf body)) (suc k)
+        refreshed-m =
+            let q = L .relM in
+            let a = above-top (em .timestamps .accepted) (f .timestamp) (d .above) in
+            let i = q .nextIn in
+            let s = marked-stamp g in
+            let b = marked-body g in
+            let v = q .live (d .refresh) in
+            let e = refreshedOf em t (f .timestamp) (paddedOf body) in
+            let M = tookM (L .master) (at (marks l) k) k t in
+            become e {M = M} (L .setM)
+            (record {
+              session = q .session;
+              nextOut = q .nextOut;
+              nextIn = ap suc (sym (marked-stamp g));
+              held = refl;
+              live = λ z. record {
+                value = some body;
+                phase = λ j. liveM t (countedAge (sym reckoned j)) (some (b j));
+                holds = (refl, refl, d .width);
+                asks = v .asks;
+                closes = v .closes;
+              };
+              pend = λ z. no-setup (d .refresh) z;
+              ready = λ z. no-setup (d .refresh) (pending-setup (em .state) z);
+            })
+            (m-takes (L .inv) t k refl (omega arith) (in-log g) marked-who
+            (marked-code g ∙ eqb-true (codeOf (f .command)) 255 r) (omega arith) young marked-own)
 
   -- ---- a show that is not fail-safe
   module _ (x : isExpired em t ≡ false) (n : isFailSafe em ≡ false) where
-    pub shown-m : ShownAt (marks l) 2 tm (t + c .master) (heldAge em t) (marginAt false (em .settings))
+    pub shown-m : ShownAt (marks l) 2 tm (t + shift) (heldAge em t) (marginAt false (em .settings))
         (shownOf em)
     shown-m =
         let v = L .relM .live (in-refresh em n) in
-        let w : Phased (L .master .nextOut) (liveM (em .since) (em .value .age) (v .value)) =
-        subst (Phased (L .master .nextOut)) (v .phase) (L .inv .master .phase) in
-        let a = w .0 in
         let u = refresh-timer em t x (in-refresh em n) in
         let i : em .settings .interval ≡ sm .interval = ap (λ (y : Settings). y .interval) (L .setM) in
         let r : em .settings .roundtrip ≡ sm .roundtrip = ap (λ (y : Settings). y .roundtrip) (L .setM) in
         let o : em .settings .age ≡ sm .age = ap (λ (y : Settings). y .age) (L .setM) in
         let s = L .inv .smallM .age in
         let s′ = L .inv .smallM .hold in
-        held-shown em (marks l) (HeldByM (L .master .floor) (L .master .nextIn)) 2 tm (em .since + c .master) t
-        (t + c .master) (sm .interval) (marginM TM) (marginAt false (em .settings)) (v .value) (L .master .held) n
-        (v .holds) (L .relM .held) (L .inv .master .held) (λ y f. (f .who, f .code)) (w .1)
+        held-shown em (marks l) (HeldByM (L .master .floor) (L .master .nextIn)) 2 tm t (t + shift) (shownM TM)
+        (marginAt false (em .settings)) (v .value) (L .master .held) n (v .holds) (L .relM .held)
+        (L .inv .master .held) (λ y f. (f .who, f .code))
+        (m-shows (L .inv) t (em .since) (em .value .age) (v .value) (v .phase) refl (omega arith))
         (λ k z. L .inv .log .stamped k z .past)
-        (record { up = omega arith; down = omega arith }) (omega arith) (omega arith)
         (record { most = omega arith; low = omega arith; high = omega arith; small = omega arith })

@@ -114,6 +114,7 @@ targetOf K.InvokeFunc = FuncRunning
 targetOf K.ReadErrorInfo = ParamVerify
 targetOf K.WriteErrorInfo = Terminate
 targetOf K.RefreshReady = RefreshPending
+targetOf K.RefreshMo = Refresh
 targetOf K.RefreshGo = Refresh
 targetOf K.Refresh = Refresh
 targetOf K.Disconnect = Terminate
@@ -130,15 +131,21 @@ leads K.ReadErrorInfo = each (Leads K.ReadErrorInfo) no no no no (λ h. refl) no
 leads K.WriteErrorInfo = each (Leads K.WriteErrorInfo) no no (λ h. refl) (λ h. refl) (λ h. refl) (λ h. refl)
     (λ h. refl) no no (λ h. refl)
 leads K.RefreshReady = each (Leads K.RefreshReady) no no no no (λ h. refl) (λ h. refl) no no no no
-leads K.RefreshGo = each (Leads K.RefreshGo) no no no no no no (λ h. refl) no no no
+leads K.RefreshMo = each (Leads K.RefreshMo) no no no no no no no (λ h. refl) no no
+leads K.RefreshGo = each (Leads K.RefreshGo) no no no no no no (λ h. refl) (λ h. refl) no no
 leads K.Refresh = each (Leads K.Refresh) no no no no no no no (λ h. refl) no no
 leads K.Disconnect = each (Leads K.Disconnect) no (λ h. refl) (λ h. refl) (λ h. refl) (λ h. refl) (λ h. refl)
     (λ h. refl) (λ h. refl) no no
 
--- S-RefreshGO is taken in RefreshPending alone
-pub go-from : (s : State) → isNo (nextOf K.RefreshGo s) ≡ false → isState s RefreshPending ≡ true
-go-from = each (λ s. isNo (nextOf K.RefreshGo s) ≡ false → isState s RefreshPending ≡ true) no no no no no no
-    (λ h. refl) no no no
+-- before Refresh S-RefreshGO is taken in RefreshPending alone, and S-RefreshMO nowhere
+pub go-from : (s : State) → isState s Refresh ≡ false → isNo (nextOf K.RefreshGo s) ≡ false
+    → isState s RefreshPending ≡ true
+go-from = each (λ s. isState s Refresh ≡ false → isNo (nextOf K.RefreshGo s) ≡ false → isState s RefreshPending ≡ true)
+    (λ r. no) (λ r. no) (λ r. no) (λ r. no) (λ r. no) (λ r. no) (λ r h. refl) no (λ r. no) (λ r. no)
+
+pub mo-from : (s : State) → isState s Refresh ≡ false → isNo (nextOf K.RefreshMo s) ≡ false → ⊥
+mo-from = each (λ s. isState s Refresh ≡ false → isNo (nextOf K.RefreshMo s) ≡ false → ⊥)
+    (λ r. no) (λ r. no) (λ r. no) (λ r. no) (λ r. no) (λ r. no) (λ r. no) no (λ r. no) (λ r. no)
 
 -- before s2 and m2 are fixed: neither in RefreshPending nor in Refresh
 abbrev pub Unfixed : State → Type 0
@@ -156,6 +163,7 @@ held-from K.InvokeFunc b = off b
 held-from K.ReadErrorInfo b = off b
 held-from K.WriteErrorInfo b = off b
 held-from K.RefreshReady b = each (Takes K.RefreshReady) no no no no (λ h. (refl, refl)) (λ h. (refl, refl)) no no no no
+held-from K.RefreshMo b = off b
 held-from K.RefreshGo b = off b
 held-from K.Refresh b = off b
 held-from K.Disconnect b = off b
@@ -201,7 +209,8 @@ stays-established K.InvokeFunc n e = each (Stays K.InvokeFunc) no no no no (λ h
 stays-established K.ReadErrorInfo n e = each (Stays K.ReadErrorInfo) no no no no (λ h. refl) no no no no no
 stays-established K.WriteErrorInfo n e = off e
 stays-established K.RefreshReady n e = each (Stays K.RefreshReady) no no no no (λ h. refl) (λ h. refl) no no no no
-stays-established K.RefreshGo n e = each (Stays K.RefreshGo) no no no no no no (λ h. refl) no no no
+stays-established K.RefreshMo n e = each (Stays K.RefreshMo) no no no no no no no (λ h. refl) no no
+stays-established K.RefreshGo n e = each (Stays K.RefreshGo) no no no no no no (λ h. refl) (λ h. refl) no no
 stays-established K.Refresh n e = each (Stays K.Refresh) no no no no no no no (λ h. refl) no no
 stays-established K.Disconnect n e = off e
 

@@ -4,7 +4,7 @@ use mathlib.Core.Path.{_≡_, refl, sym, ap, subst, _∙_}
 use mathlib.Core.Bool.{Bool, true, false, _&&_, _||_, not, cond, Bool·beq, false≢true}
 use mathlib.Core.Logic.{⊎-elim}
 use mathlib.Core.List.{List, [], _∷_, _++_}
-use Prim.Native.Nat.{ℕ, zero, suc, _+_, _≤_, _<_}
+use Prim.Native.Nat.{ℕ, zero, suc, _+_, _-_, _≤_, _<_}
 use native.Mathlib.Nat.{not-suc-le-zero, le-of-suc-le-suc}
 use native.Mathlib.Numerals.{add-one}
 use native.Mathlib.Omega.{arith}
@@ -23,7 +23,8 @@ use mathlib.Mathlib.Data.Bool.Basic.{and-elim-left as and-left, and-elim-right a
 use Rattle.words.proofs.Alike.{same-eq}
 use Rattle.frame.proofs.Digits.{command-of-code}
 use Rattle.endpoint.specs.declared.Settings.{Settings}
-use Rattle.link.specs.Runs.{Sent, noSent, sentAt, sameFields, lastFrom, lastOf, Grant, mayTravel}
+use Rattle.steps.specs.Steps.{deliver}
+use Rattle.link.specs.Runs.{Sent, noSent, sentAt, sameFields, lastFrom, lastOf, Grant, mayTravel, mayDeliver}
 use Rattle.link.proofs.Marks.{Mark, mark, size, at, snoc}
 use Rattle.link.proofs.Invariant.{Given, Travels}
 use Rattle.link.proofs.Relation.{numbered, whoOf, markOf, marks, Honest}
@@ -190,6 +191,30 @@ travels-told (y ∷ g) s loads h n e x q =
 pub record Handed (given : List Grant) (f : Fields) (body : List ℕ) (l : List Sent) (k : ℕ) : Type 0 where
   pub found : FoundAt f body l k
   pub travels : mayTravel given (f .subconnection) (sentAt l k .loads) ≡ true
+
+-- a deliver that is allowed hands over a frame of the log
+pub record Delivered (given : List Grant) (f : Fields) (body : List ℕ) (l : List Sent) : Type 0 where
+  pub place : ℕ
+  pub last : lastOf f body l ≡ suc place
+  pub handed : Handed given f body l place
+
+pub delivered : (given : List Grant) (f : Fields) (body : List ℕ) (l : List Sent)
+    → mayDeliver given l (deliver f body) ≡ true → Delivered given f body l
+delivered given f body l h = was (lastOf f body l) refl
+  where
+    was : (n : ℕ) → lastOf f body l ≡ n → Delivered given f body l
+    was zero q = absurd (false≢true (rw q at h))
+    was (suc k) q =
+        let z : lastOf f body l - 1 ≡ k = omega arith in
+        record {
+          place = k;
+          last = q;
+          handed = record {
+            found = found-at f body l k q;
+            travels = subst (λ (n : ℕ). mayTravel given (f .subconnection) (sentAt l n .loads) ≡ true) z
+                (and-right (leb 1 (lastOf f body l)) _ h);
+          };
+        }
 
 -- its mark
 module _ {given : List Grant} {f : Fields} {body : List ℕ} {l : List Sent} {k : ℕ} (g : Handed given f body l k) where

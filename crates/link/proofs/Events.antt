@@ -2,14 +2,13 @@
 -- to be kept, of the numbers given, the log, the endpoint and the place last taken; the rest says that each of the
 -- endpoint's steps keeps it.
 use mathlib.Core.Path.{_≡_, refl, sym, ap, subst, _∙_}
-use mathlib.Core.Bool.{Bool, true, false, _&&_, not, cond, Bool·beq, false≢true}
+use mathlib.Core.Bool.{Bool, true, false, _&&_, not, cond, Bool·beq}
 use mathlib.Core.List.{List, [], _++_, append-nil}
-use Prim.Native.Nat.{ℕ, zero, suc, _+_, _-_, _/_, _≤_}
+use Prim.Native.Nat.{ℕ, suc, _+_, _-_, _/_, _≤_}
 use native.Mathlib.Omega.{arith}
 use lib.ListN.{length}
-use lib.Dec.{leb}
 use borrow.Author.Tests.{not-true}
-use mathlib.Mathlib.Data.Bool.Basic.{and-elim-left as and-left, and-elim-right as and-right}
+use mathlib.Mathlib.Data.Bool.Basic.{and-elim-left as and-left}
 use Rattle.frame.specs.declared.Command.the-variants as K′
 use Rattle.frame.specs.declared.Subconnection.{Subconnection}
 use Rattle.frame.specs.declared.Fields.{Fields}
@@ -41,10 +40,9 @@ use Rattle.steps.proofs.Keeps.{bcase}
 use Rattle.steps.specs.Steps.{Act, start, stop, restart, setNotReady, setResult, clearResult, setRecord}
 use Rattle.steps.specs.Steps.{clearRecord, invoke, readError, writeError}
 use Rattle.steps.specs.Steps.{Call, act, send, deliver, show, actOf, stepOf}
-use Rattle.link.specs.Runs.{Sent, sentAt, logged, lastOf, Grant, givenBy, givenAfter, mayTravel, mayDeliver}
-use Rattle.link.specs.Runs.{tookBy}
+use Rattle.link.specs.Runs.{Sent, logged, lastOf, Grant, givenBy, givenAfter, mayDeliver, tookBy}
 use Rattle.link.proofs.Relation.{toldOf}
-use Rattle.link.proofs.Entries.{Handed, found-at}
+use Rattle.link.proofs.Entries.{Handed, delivered as written-before}
 
 -- ---- a stop is done or dropped
 stop-cases : (P : Outcome → Type 0) (e : Endpoint) (t : ℕ) → (stopOf e t .answer ≡ Done → P (stopOf e t))
@@ -244,14 +242,7 @@ module _ (slave : Bool) (m t loads : ℕ) (given : List Grant) (l : List Sent) (
               (λ a. silent (send value) quiet a (endedOf e) ended),
           omega arith,
         )
-    acted (deliver f body) h = was (lastOf f body l) refl
-      where
-        was : (n : ℕ) → lastOf f body l ≡ n → Kept (deliver f body) (deliverOf e t f body)
-        was zero q = absurd (false≢true (rw q at h))
-        was (suc k) q =
-            let z : lastOf f body l - 1 ≡ k = omega arith in
-            let y : mayTravel given (f .subconnection) (sentAt l k .loads) ≡ true =
-            subst (λ (n : ℕ). mayTravel given (f .subconnection) (sentAt l n .loads) ≡ true) z
-            (and-right (leb 1 (lastOf f body l)) _ h) in
-            delivered f body k q (record { found = found-at f body l k q; travels = y })
+    acted (deliver f body) h =
+        let d = written-before given f body l h in
+        delivered f body (d .place) (d .last) (d .handed)
     acted show h = (silent show (λ a. refl) Done e base, omega arith)

@@ -1,5 +1,6 @@
--- The theorem's premises can be met, over loadings of the slave too: a line starts, its station at times not ready,
--- performs a command, refreshes both ways and shows both values; its slave is loaded again while frames travel, with a
+-- The theorem's premises can be met, with clocks that part and over loadings of the slave: a line starts, its station at
+-- times not ready, performs a command, refreshes both ways and shows both values, once more when the slave's clock has
+-- gained a tick, and again after its offset was measured anew; its slave is loaded again while frames travel, with a
 -- wrong interval at first, takes an old S-Connect request, starts again under another session number, is handed an old
 -- S-Refresh, and both values are shown once more. All of it is computed.
 use mathlib.Core.Path.{_≡_, refl, ap}
@@ -15,7 +16,8 @@ use Rattle.frame.specs.Control.{is}
 use Rattle.endpoint.specs.declared.Settings.{Settings}
 use Rattle.steps.specs.Frames.{sentFields, ackFields, setupData, handedOver}
 use Rattle.steps.specs.Steps.{start, stop, restart, setNotReady, setResult, invoke, Call, act, send, deliver, show}
-use Rattle.link.specs.Runs.{Clocks, Event, called, loaded, sameFields, lastFrom, lastOf, mayTravel, sentAt}
+use Rattle.link.specs.Clocks.{keepsPace}
+use Rattle.link.specs.Runs.{Event, called, loaded, sameFields, lastFrom, lastOf, mayTravel, sentAt}
 use Rattle.link.specs.Runs.{Show, shown, Link}
 use Rattle.link.specs.Fresh.{Paired, runOf}
 
@@ -31,32 +33,32 @@ settings slave interval = record {
   station = 7;
 }
 
+-- moments are 5,000 above the master's readings; the slave's clock is some ticks ahead of the master's: 5,000 at first,
+-- later 5,001; once it is loaded again 100, and then 10
 at-master : ℕ → Call → Event
-at-master t call = called false t call
+at-master t call = called false t 0 call
 
-at-slave : ℕ → Call → Event
-at-slave t call = called true t call
-
--- the slave's clock is 5,000 ticks ahead of the master's; once it is loaded again 100, and then 10
-clocks : Clocks
-clocks = record { master = 5000; slave = 0 }
+at-slave : (ahead t : ℕ) → Call → Event
+at-slave ahead t call = called true (ahead + t) (5000 + t) call
 
 -- a master's frame in the session n, with the timestamp t
-sends : ℕ → Command → ℕ → ℕ → Fields
-sends n k t baseline = sentFields k false (cond (is k K.Connect) Absent (Number n)) 0x01020103 t baseline
+sends : ℕ → Command → Bool → ℕ → ℕ → Fields
+sends n k sequence t baseline =
+    sentFields k sequence false (cond (is k K.Connect) Absent (Number n)) 0x01020103 t baseline
 
 -- a request written at t, taken by the slave, and its reply, with Busy or Error or neither, taken by the master, one
 -- tick later each
-answered : (ahead n : ℕ) (busy error : Bool) (t : ℕ) (k : Command) (baseline : ℕ) (request reply : List ℕ) → List Event
-answered ahead n busy error t k baseline request reply =
+answered : (ahead n : ℕ) (busy error sequence : Bool) (t : ℕ) (k : Command) (baseline : ℕ) (request reply : List ℕ)
+    → List Event
+answered ahead n busy error sequence t k baseline request reply =
     at-master t (send [])
-    ∷ at-slave (ahead + 1 + t) (deliver (sends n k t baseline) request)
-    ∷ at-master (2 + t) (deliver (ackFields k busy error (Number n) 0x01020103 t) reply) ∷ []
+    ∷ at-slave ahead (1 + t) (deliver (sends n k sequence t baseline) request)
+    ∷ at-master (2 + t) (deliver (ackFields k busy error sequence (Number n) 0x01020103 t) reply) ∷ []
 
 -- a setup request, whose reply repeats its data
 repeated : (ahead n : ℕ) (busy error : Bool) (t : ℕ) (k : Command) (baseline : ℕ) → List Event
 repeated ahead n busy error t k baseline =
-    let words = setupData (settings false 100) k in answered ahead n busy error t k baseline words words
+    let words = setupData (settings false 20000) k in answered ahead n busy error false t k baseline words words
 
 exchange : (ahead n t : ℕ) (k : Command) (baseline : ℕ) → List Event
 exchange ahead n t k baseline = repeated ahead n false false t k baseline
@@ -64,8 +66,8 @@ exchange ahead n t k baseline = repeated ahead n false false t k baseline
 -- the same in the first session, while the station is not ready
 postponed : ℕ → Command → List Event
 postponed t k =
-    (at-slave (5000 + t) (act (setNotReady true)) ∷ [])
-    ++ (repeated 5000 7 true false t k 0 ++ (at-slave (5002 + t) (act (setNotReady false)) ∷ []))
+    (at-slave 5000 t (act (setNotReady true)) ∷ [])
+    ++ (repeated 5000 7 true false t k 0 ++ (at-slave 5000 (2 + t) (act (setNotReady false)) ∷ []))
 
 -- a queued command, first with Busy, since the station has no result yet, and then with its result
 command : List ℕ
@@ -77,19 +79,27 @@ result = 9 ∷ 8 ∷ 7 ∷ 6 ∷ []
 performed : ℕ → List Event
 performed t =
     (at-master t (act (invoke 7 [])) ∷ [])
-    ++ (answered 5000 7 true false t K.InvokeFunc 0 command command
-    ++ ((at-slave (5002 + t) (act (setResult result)) ∷ [])
-    ++ answered 5000 7 false false (3 + t) K.InvokeFunc 0 command result))
+    ++ (answered 5000 7 true false false t K.InvokeFunc 0 command command
+    ++ ((at-slave 5000 (2 + t) (act (setResult result)) ∷ [])
+    ++ answered 5000 7 false false false (3 + t) K.InvokeFunc 0 command result))
 
--- a value each way, and both shown
-refreshed : (ahead n t : ℕ) (down up : List ℕ) → List Event
-refreshed ahead n t down up =
+-- a value each way, and both shown; the slave reckons the master's time a tick high, which is what the reply to
+-- S-RefreshReady took, and so many ticks more
+refreshed : (ahead lead n t : ℕ) (down up : List ℕ) → List Event
+refreshed ahead lead n t down up =
     at-master t (send down)
-    ∷ at-slave (ahead + 1 + t) (deliver (sends n K.Refresh t 0) down)
-    ∷ at-slave (ahead + 10 + t) show
-    ∷ at-slave (ahead + 11 + t) (send up)
-    ∷ at-master (12 + t) (deliver (sentFields K.Refresh true (Number n) 0x01020103 (12 + t) 0) up)
+    ∷ at-slave ahead (1 + t) (deliver (sends n K.Refresh false t 0) down)
+    ∷ at-slave ahead (10 + t) show
+    ∷ at-slave ahead (11 + t) (send up)
+    ∷ at-master (12 + t) (deliver (sentFields K.Refresh false true (Number n) 0x01020103 (12 + lead + t) 0) up)
     ∷ at-master (20 + t) show ∷ []
+
+-- a measurement in Refresh, the first, whose Offset op seq is 1: S-RefreshMO, and S-RefreshGO a tick after its reply
+measured : (ahead n t : ℕ) → List Event
+measured ahead n t =
+    let zero = setupData (settings false 20000) K.RefreshMo in
+    answered ahead n false false true t K.RefreshMo 0 zero zero
+    ++ answered ahead n false false true (3 + t) K.RefreshGo 1 zero zero
 
 -- the session 7
 before : List Event
@@ -104,51 +114,58 @@ before =
     ++ (postponed 39 K.RefreshReady
     ++ (exchange 5000 7 42 K.RefreshReady 0
     ++ (exchange 5000 7 50 K.RefreshGo 6
-    ++ refreshed 5000 7 60 (1 ∷ 2 ∷ 3 ∷ 4 ∷ []) (5 ∷ 6 ∷ 7 ∷ 8 ∷ []))))))))))
+    ++ (refreshed 5000 0 7 60 (1 ∷ 2 ∷ 3 ∷ 4 ∷ []) (5 ∷ 6 ∷ 7 ∷ 8 ∷ [])
+    ++ (refreshed 5001 1 7 10040 (2 ∷ 4 ∷ 6 ∷ 8 ∷ []) (1 ∷ 3 ∷ 5 ∷ 7 ∷ [])
+    ++ (measured 5001 7 10062
+    ++ refreshed 5001 0 7 10070 (3 ∷ 6 ∷ 9 ∷ 12 ∷ []) (2 ∷ 5 ∷ 8 ∷ 11 ∷ [])))))))))))))
 
 -- the slave is loaded with the number 8 and a wrong interval: it takes the old S-Connect request of 10, and ends at
 -- S-InitConfirmNetPrm
 between : List Event
 between =
-    (loaded (settings true 77) 8 4900
-    ∷ at-slave 190 (deliver (sends 7 K.Connect 10 0) (setupData (settings false 100) K.Connect))
-    ∷ at-master 91 (act stop)
-    ∷ at-master 92 (act (restart 0))
-    ∷ at-master 93 (act start) ∷ [])
-    ++ (exchange 100 8 95 K.Connect 0 ++ repeated 100 8 false true 100 K.ConfirmNetwork 0)
+    (loaded (settings true 77) 8
+    ∷ at-slave 100 10100 (deliver (sends 7 K.Connect false 10 0) (setupData (settings false 20000) K.Connect))
+    ∷ at-master 10101 (act stop)
+    ∷ at-master 10102 (act (restart 0))
+    ∷ at-master 10103 (act start) ∷ [])
+    ++ (exchange 100 8 10105 K.Connect 0 ++ repeated 100 8 false true 10110 K.ConfirmNetwork 0)
 
 -- then with the right one and the number 9
 after : List Event
 after =
-    (loaded (settings true 100) 9 4990
-    ∷ at-master 109 (act (restart 0))
-    ∷ at-master 109 (act start) ∷ [])
-    ++ (exchange 10 9 110 K.Connect 0
-    ++ (exchange 10 9 113 K.ConfirmNetwork 0
-    ++ (exchange 10 9 116 K.VerifyStation 0
-    ++ (exchange 10 9 119 K.RefreshReady 0
-    ++ (exchange 10 9 125 K.RefreshGo 4
-    ++ ((at-slave 138 (deliver (sends 7 K.Refresh 60 0) (1 ∷ 2 ∷ 3 ∷ 4 ∷ [])) ∷ [])
-    ++ refreshed 10 9 130 (1 ∷ 1 ∷ 2 ∷ 3 ∷ []) (5 ∷ 8 ∷ 13 ∷ 21 ∷ [])))))))
+    (loaded (settings true 20000) 9
+    ∷ at-master 10119 (act (restart 0))
+    ∷ at-master 10119 (act start) ∷ [])
+    ++ (exchange 10 9 10120 K.Connect 0
+    ++ (exchange 10 9 10123 K.ConfirmNetwork 0
+    ++ (exchange 10 9 10126 K.VerifyStation 0
+    ++ (exchange 10 9 10129 K.RefreshReady 0
+    ++ (exchange 10 9 10135 K.RefreshGo 4
+    ++ ((at-slave 10 10138 (deliver (sends 7 K.Refresh false 60 0) (1 ∷ 2 ∷ 3 ∷ 4 ∷ [])) ∷ [])
+    ++ refreshed 10 0 9 10140 (1 ∷ 1 ∷ 2 ∷ 3 ∷ []) (5 ∷ 8 ∷ 13 ∷ 21 ∷ [])))))))
 
 run : Link
-run = runOf (settings false 100) (settings true 100) 7 clocks (before ++ (between ++ after))
+run = runOf (settings false 20000) (settings true 20000) 7 5000 (before ++ (between ++ after))
 
-paired : Paired (settings false 100) (settings true 100)
+paired : Paired (settings false 20000) (settings true 20000)
 unfolding settings
 paired = record {
   master = refl;
   slave = refl;
-  ticksM = record { interval = lit≤ tt; roundtrip = lit≤ tt; age = lit≤ tt };
-  ticksS = record { interval = lit≤ tt; roundtrip = lit≤ tt; age = lit≤ tt };
+  ticksM = record { some = lit≤ tt; interval = lit≤ tt; roundtrip = lit≤ tt; age = lit≤ tt };
+  ticksS = record { some = lit≤ tt; interval = lit≤ tt; roundtrip = lit≤ tt; age = lit≤ tt };
 }
 
 values : List Show
 values =
-    shown true (settings true 100) 5070 (1 ∷ 2 ∷ 3 ∷ 4 ∷ []) 11 21 21
-    ∷ shown false (settings false 100) 5080 (5 ∷ 6 ∷ 7 ∷ 8 ∷ []) 8 22 22
-    ∷ shown true (settings true 100) 5140 (1 ∷ 1 ∷ 2 ∷ 3 ∷ []) 11 39 39
-    ∷ shown false (settings false 100) 5150 (5 ∷ 8 ∷ 13 ∷ 21 ∷ []) 8 40 40
+    shown true (settings true 20000) 5070 (1 ∷ 2 ∷ 3 ∷ 4 ∷ []) 11 21 21
+    ∷ shown false (settings false 20000) 5080 (5 ∷ 6 ∷ 7 ∷ 8 ∷ []) 8 22 22
+    ∷ shown true (settings true 20000) 15050 (2 ∷ 4 ∷ 6 ∷ 8 ∷ []) 12 23 23
+    ∷ shown false (settings false 20000) 15060 (1 ∷ 3 ∷ 5 ∷ 7 ∷ []) 8 24 24
+    ∷ shown true (settings true 20000) 15080 (3 ∷ 6 ∷ 9 ∷ 12 ∷ []) 11 29 29
+    ∷ shown false (settings false 20000) 15090 (2 ∷ 5 ∷ 8 ∷ 11 ∷ []) 8 30 30
+    ∷ shown true (settings true 20000) 15150 (1 ∷ 1 ∷ 2 ∷ 3 ∷ []) 11 47 47
+    ∷ shown false (settings false 20000) 15160 (5 ∷ 8 ∷ 13 ∷ 21 ∷ []) 8 48 48
     ∷ []
 
 -- both facts at once, so that the run is computed once
@@ -156,8 +173,8 @@ abbrev told : Link → Bool × List Show
 told l = (l .allowed, l .shows)
 
 computed : told run ≡ (true, values)
-unfolding run before between after refreshed performed command result postponed exchange repeated answered sends clocks
-    at-master at-slave settings values setupData handedOver sameFields lastFrom lastOf mayTravel sentAt
+unfolding run before between after measured refreshed performed command result postponed exchange repeated answered
+    sends at-master at-slave settings values setupData handedOver sameFields lastFrom lastOf mayTravel sentAt keepsPace
 computed = refl
 
 allowed : run .allowed ≡ true

@@ -3,6 +3,7 @@ pub mod Marks
 pub mod Ages
 pub mod Invariant
 pub mod Kept
+pub mod Bounds
 pub mod Codes
 pub mod Relation
 pub mod Entries
@@ -13,4 +14,5 @@ pub mod Events
 pub mod Ends
 pub mod Sends
 pub mod AgeProof
+pub mod AheadProof
 pub mod Example

@@ -14,13 +14,13 @@ use Rattle.frame.specs.declared.Command.the-variants as K
 use Rattle.frame.specs.declared.Fields.{Fields}
 use Rattle.frame.specs.Control.{is, codeOf}
 use Rattle.endpoint.specs.declared.Settings.{Settings}
-use Rattle.endpoint.specs.Time.{boundOf}
+use Rattle.endpoint.specs.Time.{driftAllowance, boundOf}
 use Rattle.link.specs.Runs.{Sent, noSent, sentAt, Show, shown, noShow, showAt}
-use Rattle.link.specs.Fresh.{Aged, ItsSend}
+use Rattle.link.specs.Fresh.{Aged, driftShare, ItsSend}
 use Rattle.link.proofs.Marks.{Mark, at}
 use Rattle.link.proofs.Relation.{whoOf, marks, Honest}
 use Rattle.link.proofs.Entries.{size-marks, at-marks}
-use Rattle.link.proofs.Shown.{ShownAt, marginAt}
+use Rattle.link.proofs.Shown.{ShownAt, shareAt, marginAt}
 
 pub record HasSend (log : List Sent) (x : Show) : Type 0 where
   pub place : ℕ
@@ -152,23 +152,29 @@ pub writer-of : (slave : Bool) (f : Fields) → whoOf f ≡ cond slave 0 2 → f
 writer-of true f h = kind-slave (f .application) (is (f .command) K.Refresh) h
 writer-of false f h = kind-master (f .application) (is (f .command) K.Refresh) h
 
--- how old it is; by cases on the role, so that arithmetic sees R and not a choice
-aged-at : (slave : Bool) (s : Settings) {l : List Mark} {kind took m f n : ℕ} {v : List ℕ} → s .slave ≡ slave
-    → (h : ShownAt l kind took m f (marginAt slave s) v)
-    → Aged (shown slave s m v f took n) (at l (h .place) .moment)
-aged-at true s e h =
-    let b : boundOf s ≡ s .age + s .interval = rw e (omega arith) in
-    record { before = h .past; young = omega arith; low = omega arith; high = omega arith; most = omega arith }
-aged-at false s e h =
-    let b : boundOf s ≡ s .age + s .interval + s .roundtrip = rw e (omega arith) in
-    record { before = h .past; young = omega arith; low = omega arith; high = omega arith; most = omega arith }
+-- how old it is, where the drift has so large a share
+aged-at : (slave : Bool) (s : Settings) (share : ℕ) {l : List Mark} {kind took m f n : ℕ} {v : List ℕ}
+    → shareAt slave s ≤ share → (h : ShownAt l kind took m f (marginAt slave s) v)
+    → Aged share (shown slave s m v f took n) (at l (h .place) .moment)
+aged-at slave s share k h =
+    record { before = h .past; young = omega arith; low = omega arith; high = omega arith; most = h .most }
+
+-- and the 10 of the bound are enough
+share-small : (slave : Bool) (s : Settings) → s .interval ≤ 65535 → shareAt slave s ≤ driftAllowance
+share-small true s h = omega arith
+share-small false s h = omega arith
+
+bounded-at : (slave : Bool) (s : Settings) (m sent : ℕ) → s .slave ≡ slave
+    → m ≤ sent + (s .age + (s .interval + (cond slave 0 (s .roundtrip) + driftAllowance))) → m ≤ sent + boundOf s
+bounded-at slave s m sent e h =
+    subst (λ (b : Bool). m ≤ sent + (s .age + (s .interval + (cond b 0 (s .roundtrip) + driftAllowance)))) (sym e) h
 
 -- e are the settings of the end that shows it
 pub sent-by : (sm e : Settings) (log : List Sent) (slave : Bool) (took m age : ℕ) (bytes : List ℕ) → e .slave ≡ slave
-    → ((i : ℕ) → i < length log → Honest sm (sentAt log i))
+    → e .interval ≤ 65535 → ((i : ℕ) → i < length log → Honest sm (sentAt log i))
     → ShownAt (marks log) (cond slave 0 2) took m age (marginAt slave e) bytes
     → HasSend log (shown slave e m bytes age took (length log))
-sent-by sm e log slave took m age bytes role honest s =
+sent-by sm e log slave took m age bytes role few honest s =
     let k = s .place in
     let n : k < length log = let z = s .there in let y = size-marks log in omega arith in
     let q = at-marks log k n in
@@ -176,6 +182,11 @@ sent-by sm e log slave took m age bytes role honest s =
     let w : whoOf (sentAt log k .fields) ≡ cond slave 0 2 = sym (ap (λ (y : Mark). y .who) q) ∙ s .who in
     let r : is (sentAt log k .fields .command) K.Refresh ≡ true =
     eq-eqb (codeOf (sentAt log k .fields .command)) 255 (sym (ap (λ (y : Mark). y .code) q) ∙ s .code) in
+    let its : (share : ℕ) → shareAt slave e ≤ share
+    → Aged share (shown slave e m bytes age took (length log)) (sentAt log k .moment) =
+    λ share u. subst (Aged share (shown slave e m bytes age took (length log))) (ap (λ (y : Mark). y .moment) q)
+    (aged-at slave e share u s) in
+    let asked = its driftAllowance (share-small slave e few) in
     record {
       place = k;
       sent = s .held;
@@ -185,7 +196,8 @@ sent-by sm e log slave took m age bytes role honest s =
         other = sym (h .writer) ∙ writer-of slave (sentAt log k .fields) w;
         refresh = r;
         value = h .value r ∙ ap some (sym (ap (λ (y : Mark). y .body) q) ∙ s .body);
-        aged = subst (Aged (shown slave e m bytes age took (length log))) (ap (λ (y : Mark). y .moment) q)
-            (aged-at slave e role s);
+        bounded = bounded-at slave e m (sentAt log k .moment) role (asked .young);
+        aged = asked;
+        sharper = its (driftShare (shown slave e m bytes age took (length log))) (omega arith);
       };
     }

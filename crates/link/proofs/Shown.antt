@@ -18,25 +18,27 @@ use Rattle.steps.specs.Frames.{showWidth}
 use Rattle.steps.specs.Calls.{isFailSafe, heldOr, shownOf}
 use Rattle.steps.specs.Frames.{paddedOf}
 use Rattle.steps.proofs.Shows.{show-width-le}
+use Rattle.link.specs.Clocks.{drift}
 use Rattle.link.proofs.Marks.{Mark, size, at, Each}
-use Rattle.link.proofs.Ages.{Pace}
-use Rattle.link.proofs.Invariant.{creep, Held, Margin, ValueOf}
+use Rattle.link.proofs.Invariant.{Held, Margin, ValueOf}
 use Rattle.link.proofs.Relation.{Holds}
 
 -- the margin of a shown age, by the settings of the end that shows it
+abbrev pub shareAt : Bool → Settings → ℕ
+shareAt slave s = 3 + cond slave (drift (s .interval)) 0
+
 abbrev pub marginAt : Bool → Settings → Margin
 marginAt slave s = record {
   most = s .age + s .interval;
-  low = cond slave 0 (s .roundtrip);
-  high = cond slave (s .roundtrip) 0;
+  low = cond slave 0 (s .roundtrip) + shareAt slave s;
+  high = cond slave (s .roundtrip) 0 + shareAt slave s;
 }
 
--- a margin when the value is taken, and one that serves for i ticks more
-pub record HeldFor (i : ℕ) (a b : Margin) : Type 0 where
-  pub most : a .most + i ≤ b .most
-  pub low : a .low + creep ≤ b .low
-  pub high : a .high + creep ≤ b .high
-  -- so no age overflows
+-- a margin within another, which is so small that no age overflows
+pub record Within (a b : Margin) : Type 0 where
+  pub most : a .most ≤ b .most
+  pub low : a .low ≤ b .low
+  pub high : a .high ≤ b .high
   pub small : b .most < 2 ^ 64
 
 -- a value shown at moment m with age f: the place of its frame, and how old that is
@@ -72,17 +74,15 @@ shown-is e b h v =
     ∙ ap (take (showWidth (e .settings))) (v .1)
     ∙ front-padded b (showWidth (e .settings)) (v .2) (show-width-le (e .settings))
 
--- a value taken at moment r, when the timer started, and shown at clock reading t and moment m
-pub held-shown : (e : Endpoint) (l : List Mark) (P : Mark → Type 0) (kind took r t m i : ℕ) (a b : Margin)
+-- a value shown at clock reading t and moment m
+pub held-shown : (e : Endpoint) (l : List Mark) (P : Mark → Type 0) (kind took t m : ℕ) (a b : Margin)
     (v : Option (List ℕ)) (h : ℕ) → isFailSafe e ≡ false → Holds (e .settings) (e .value) v → took ≡ h → Held P l h
     → ((x : Mark) → P x → (x .who ≡ kind) × (x .code ≡ 255))
-    → ValueOf l h r (e .value .age) a v → Each (λ x. x .moment ≤ m) l
-    → Pace creep (e .since) r t m → e .since ≤ t → t ≤ e .since + i → HeldFor i a b
+    → ValueOf l h m (e .value .age + (t - e .since)) a v → Each (λ x. x .moment ≤ m) l → Within a b
     → ShownAt l kind took m (heldAge e t) b (shownOf e)
-held-shown e l P kind took r t m i a b none h n o q g y w past p k late x =
-    absurd (true≢false (sym (is-taken e n) ∙ o))
-held-shown e l P kind took r t m i a b (some v) zero n o q g y w past p k late x = absurd w
-held-shown e l P kind took r t m i a b (some v) (suc j) n o q g y w past p k late x =
+held-shown e l P kind took t m a b none h n o q g y w past x = absurd (true≢false (sym (is-taken e n) ∙ o))
+held-shown e l P kind took t m a b (some v) zero n o q g y w past x = absurd w
+held-shown e l P kind took t m a b (some v) (suc j) n o q g y w past x =
     let f : heldAge e t ≡ e .value .age + (t - e .since) = omega arith in
     let z = y (at l j) (g .fits) in
     record {

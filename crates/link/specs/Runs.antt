@@ -1,5 +1,5 @@
 -- Two endpoints of one CID over a list of calls (document 01, "What demand 3 runs over") and loadings of the slave
--- (document 02, note 8), with frames as fields and bodies.
+-- (document 02, note 8), with clocks that drift (note 9), and with frames as fields and bodies.
 use mathlib.Core.Bool.{Bool, true, false, _&&_, _||_, not, cond, Bool·beq}
 use mathlib.Core.List.{List, [], _∷_, _++_}
 use mathlib.Core.Option.{Option, some, none}
@@ -23,23 +23,15 @@ use Rattle.steps.specs.Frames as W
 use Rattle.steps.specs.Calls.{Outcome, isFailSafe, shownOf}
 use Rattle.steps.specs.Steps.{Act, start, stop, restart, setNotReady, setResult, clearResult, setRecord, clearRecord}
 use Rattle.steps.specs.Steps.{invoke, readError, writeError, Call, act, send, deliver, show, callOf}
-
--- ---- moments
--- a call's moment is its reading plus a constant of its end; document 01's D is the slave's constant less the master's.
--- A loading begins the slave's clock anew, with another constant
-pub record Clocks : Type 0 where
-  pub master : ℕ
-  pub slave : ℕ
-
-abbrev pub momentOf : Clocks → Bool → ℕ → ℕ
-momentOf c slave t = t + cond slave (c .slave) (c .master)
+use Rattle.link.specs.Clocks.{Reading, keepsPace, momentOf}
 
 -- ---- calls and loadings
--- a call at the slave's end or the master's, with its clock reading; or the slave is loaded again: its settings, its
--- session number, and the constant of its clock from then on
+-- a call at the slave's end or the master's, with its clock reading: "the list gives each call the other clock's time
+-- too, a whole number, and the master's is its moment"; or the slave is loaded again: its settings and its session
+-- number
 pub data Event : Type 0 where
-  called : (slave : Bool) (clock : ℕ) → Call → Event
-  loaded : Settings → (number constant : ℕ) → Event
+  called : (slave : Bool) (clock other : ℕ) → Call → Event
+  loaded : Settings → (number : ℕ) → Event
 
 -- ---- the frames written, oldest first
 -- by whom, when, after how many loadings of the slave, the fields and the body, and the value lent to the call: only a
@@ -58,7 +50,7 @@ noSent = record {
   slave = false;
   moment = 0;
   loads = 0;
-  fields = sentFields K.Connect false Absent 0 0 0;
+  fields = sentFields K.Connect false false Absent 0 0 0;
   body = [];
   lent = none;
 }
@@ -186,8 +178,10 @@ showAt l i = getD l i noShow
 pub record Link : Type 0 where
   pub master : Endpoint
   pub slave : Endpoint
-  -- the slave's is that of its last loading
-  pub clocks : Clocks
+  -- how far a master's moments are above its readings
+  pub shift : ℕ
+  -- the slave's calls since its last loading, newest first
+  pub readings : List Reading
   -- how often the slave was loaded again, and the session numbers given to it
   pub loads : ℕ
   pub given : List Grant
@@ -236,17 +230,30 @@ abbrev pub tookAfter : Bool → Link → Bool → Call → Outcome → ℕ
 tookAfter end l slave call o =
     cond (Bool·beq end slave) (tookBy (l .log) call (o .answer) (tookAt l end)) (tookAt l end)
 
+-- moments never fall
 abbrev pub neverFalls : Link → ℕ → Bool
 neverFalls l m = leb (l .latest) m
 
--- a call at an end with its reading, and what it came to
-abbrev pub afterCall : Link → Bool → ℕ → Call → Outcome → Link
-afterCall l slave t call o =
-    let m = momentOf (l .clocks) slave t in
+abbrev pub isReading : ℕ → Bool
+isReading t = leb t lastReading
+
+-- a slave's call is in pace with each before it since its loading: of the calls of both ends, only these need be
+abbrev pub isPaced : Link → Bool → Reading → Bool
+isPaced l slave r = cond slave (keepsPace (l .readings) r) true
+
+abbrev pub readingsAfter : Link → Bool → Reading → List Reading
+readingsAfter l slave r = cond slave (r ∷ l .readings) (l .readings)
+
+-- a call at an end with its reading and the other clock's time, and what it came to
+abbrev pub afterCall : Link → Bool → ℕ → ℕ → Call → Outcome → Link
+afterCall l slave t other call o =
+    let m = momentOf (l .shift) slave t other in
+    let r : Reading = record { tick = t; moment = m } in
     record {
       master = endpointAfter false l slave o;
       slave = endpointAfter true l slave o;
-      clocks = l .clocks;
+      shift = l .shift;
+      readings = readingsAfter l slave r;
       loads = l .loads;
       given = givenAfter slave (l .loads) call (o .answer) (l .given);
       log = l .log ++ logged slave m (l .loads) call (o .writes);
@@ -254,19 +261,25 @@ afterCall l slave t call o =
       masterTook = tookAfter false l slave call o;
       slaveTook = tookAfter true l slave call o;
       latest = m;
-      allowed = l .allowed && (mayDeliver (l .given) (l .log) call && (neverFalls l m && leb t lastReading));
+      allowed = l .allowed
+          && (mayDeliver (l .given) (l .log) call && (neverFalls l m && (isReading t && isPaced l slave r)));
     }
 
 -- settings of a slave, as a loaded list has them
 abbrev pub isSlaves : Settings → Bool
-isSlaves s = s .slave && (leb (s .interval) 65535 && (leb (s .roundtrip) 65535 && leb (s .age) 65535))
+isSlaves s =
+    s .slave
+    && (leb 1 (s .interval)
+    && (leb (s .interval) 65535 && (leb (s .roundtrip) 65535 && leb (s .age) 65535)))
 
--- the slave is loaded again: nothing is remembered at its end but what it took; a loading has no moment
-abbrev pub afterLoad : Link → Settings → ℕ → ℕ → Link
-afterLoad l s number constant = record {
+-- the slave is loaded again: nothing is remembered at its end but what it took, "and any later premise on the clocks
+-- begins anew"; a loading has no moment
+abbrev pub afterLoad : Link → Settings → ℕ → Link
+afterLoad l s number = record {
   master = l .master;
   slave = freshOf s number;
-  clocks = record { master = l .clocks .master; slave = constant };
+  shift = l .shift;
+  readings = [];
   loads = suc (l .loads);
   given = grant number (suc (l .loads)) ∷ l .given;
   log = l .log;
@@ -278,19 +291,20 @@ afterLoad l s number constant = record {
 }
 
 abbrev pub afterEvent : Link → Event → Link
-afterEvent l (called slave t k) = afterCall l slave t k (callOf (endpointAt l slave) t k)
-afterEvent l (loaded s number constant) = afterLoad l s number constant
+afterEvent l (called slave t other k) = afterCall l slave t other k (callOf (endpointAt l slave) t k)
+afterEvent l (loaded s number) = afterLoad l s number
 
 abbrev pub afterAll : Link → List Event → Link
 afterAll l [] = l
 afterAll l (v ∷ vs) = afterAll (afterEvent l v) vs
 
 -- two endpoints just loaded, the slave with a session number
-abbrev pub begun : Settings → Settings → ℕ → Clocks → Link
-begun sm ss number c = record {
+abbrev pub begun : Settings → Settings → ℕ → ℕ → Link
+begun sm ss number shift = record {
   master = freshOf sm number;
   slave = freshOf ss number;
-  clocks = c;
+  shift = shift;
+  readings = [];
   loads = 0;
   given = grant number 0 ∷ [];
   log = [];

@@ -6,8 +6,8 @@ use mathlib.Core.Bool.{Bool, true, false, _&&_, _||_, not, cond, and-false, or-t
 use mathlib.Core.List.{List}
 use mathlib.Core.Logic.{_⊎_, inl, inr}
 use mathlib.Mathlib.Data.Bool.Basic.{and-elim-left as and-left, and-elim-right as and-right}
-use Prim.Native.Nat.{ℕ, _+_, _*_, _/_}
-use lib.Dec.{eqb}
+use Prim.Native.Nat.{ℕ, _+_, _-_, _*_, _/_}
+use lib.Dec.{eqb, leb}
 use lib.ListN.{length}
 use borrow.Author.Tests.{eqb-true, not-false}
 use Rattle.words.specs.Bytes.{same}
@@ -16,7 +16,7 @@ use Rattle.errors.specs.Reading.{isRecord, moreFollows}
 use Rattle.frame.specs.declared.Command.{Command}
 use Rattle.frame.specs.declared.Command.the-variants as K
 use Rattle.frame.specs.declared.Fields.{Fields}
-use Rattle.frame.specs.Control.{is}
+use Rattle.frame.specs.Control.{is, isJoined}
 use Rattle.frame.proofs.Lengths.{length-frame}
 use Rattle.endpoint.specs.declared.State.{State}
 use Rattle.endpoint.specs.declared.State.the-variants.{Close, Starting, EstablishPending, Establish, ParamVerify}
@@ -30,22 +30,26 @@ use Rattle.endpoint.specs.declared.Answer.{Answer}
 use Rattle.endpoint.specs.declared.Answer.the-variants.{Done, Dropped, Ended}
 use Rattle.endpoint.specs.Answers.{recordFaults, setupFaults, firstOf, isDone, isDropped, isEnded, leftBy}
 use Rattle.endpoint.specs.Table.{isState, isSetup, isTerminated, requestOf, nextOf, isNo}
-use Rattle.endpoint.specs.Due.{isCommandDue, queuedIn, requestDue, isPending, answersTo, isHeldBack, mayQueue}
-use Rattle.endpoint.specs.Due.{mayQueueRead}
+use Rattle.endpoint.specs.declared.Pending.the-variants.{Nothing}
+use Rattle.endpoint.specs.Due.{isWaiting, isCommandDue, queuedIn, requestDue, isPending, answersTo, isHeldBack, mayQueue}
+use Rattle.endpoint.specs.Due.{mayQueueRead, measurementInterval, isOpen, refreshDue}
 use Rattle.endpoint.specs.Time.{isAbove, endedOf}
-use Rattle.endpoint.specs.Updates.{withQueue, withWords, withErrorInfo, withNotReady}
+use Rattle.endpoint.specs.Updates.{withPending, withMeasured, withQueue, withAnswered, withWords, withErrorInfo}
+use Rattle.endpoint.specs.Updates.{withNotReady}
 use Rattle.transitions.specs.ByCall.{startedOf, restartedOf, requestedOf, refreshSentOf, stoppedOf, invokedOf}
-use Rattle.transitions.specs.ByCall.{readQueuedOf, writeQueuedOf, queueAfter}
-use Rattle.transitions.specs.ByFrame.{refreshedOf, deferredOf, advancedOf, reportedOf, takenOf, endedBy}
+use Rattle.transitions.specs.ByCall.{measurementSentOf, readQueuedOf, writeQueuedOf, queueAfter}
+use Rattle.transitions.specs.ByFrame.{refreshedOf, deferredOf, advancedOf, remeasuredOf, adjustedOf, reportedOf, takenOf}
+use Rattle.transitions.specs.ByFrame.{endedBy}
 use Rattle.transitions.specs.ByFrame.{dueAgainOf, performedOf, confirmedOf, heardOf}
 use Rattle.steps.specs.Frames.{Written, frame, value, recordIn, hasRecord, setupData, dataOf, dueData, paddedOf}
-use Rattle.steps.specs.Frames.{paddedRecord, requestFields, refreshFields, disconnectFields, replyFields, isBusy, replyData}
+use Rattle.steps.specs.Frames.{paddedRecord, requestFields, measurementFields, refreshFields, disconnectFields}
+use Rattle.steps.specs.Frames.{replyFields, isBusy, replyData}
 use Rattle.steps.specs.Frames as W
 use Rattle.steps.specs.Calls.{Outcome, outcome, dropped, handFaults, commandData, keptRecord, recordWith, sendFaults}
-use Rattle.steps.specs.Calls.{sendOf, stopFaults, disconnectOf}
-use Rattle.steps.specs.Deliveries.{refreshFaults, isTurn, lacksSession, isWidth, isUsers, requestFaults, repliedOf}
-use Rattle.steps.specs.Deliveries.{isResult, lacksNumber, repliesRecord, replyFaults, takeRefresh, takeRequest}
-use Rattle.steps.specs.Deliveries.{takeReply, deliverOf}
+use Rattle.steps.specs.Calls.{isValueDue, sendOf, stopFaults, disconnectOf}
+use Rattle.steps.specs.Deliveries.{refreshFaults, isTurn, lacksSession, isWidth, isUsers, isStray, requestFaults}
+use Rattle.steps.specs.Deliveries.{repliedOf, isResult, lacksNumber, repliesRecord, isReplyTurn, isAwaited, replyFaults}
+use Rattle.steps.specs.Deliveries.{takeRefresh, takeRequest, takeReply, deliverOf}
 use Rattle.steps.specs.Steps.{Act, start, stop, restart, setNotReady, setResult, clearResult, setRecord, clearRecord}
 use Rattle.steps.specs.Steps.{invoke, readError, writeError, actOf}
 use Rattle.steps.specs.Values.{handsRecord}
@@ -89,6 +93,50 @@ write-due : (e : Endpoint) → is (requestDue e) K.WriteErrorInfo ≡ true → i
 write-due e h =
     bcase (isCommandDue e) (λ d. queued-write (e .setup .queue) (rw d at h))
     (λ d. absurd (true≢false (sym (rw d at h) ∙ never-write (e .state))))
+
+-- ---- measurements in Refresh, which carry no record
+-- no queued command is due there
+no-command : (s : State) → isState s Refresh ≡ true → is (requestOf s) K.RefreshReady ≡ false
+no-command Refresh h = refl
+no-command Close h = absurd (false≢true h)
+no-command Starting h = absurd (false≢true h)
+no-command EstablishPending h = absurd (false≢true h)
+no-command Establish h = absurd (false≢true h)
+no-command ParamVerify h = absurd (false≢true h)
+no-command FuncRunning h = absurd (false≢true h)
+no-command RefreshPending h = absurd (false≢true h)
+no-command Terminate h = absurd (false≢true h)
+no-command TerminateMore h = absurd (false≢true h)
+
+due-in-refresh : (e : Endpoint) → isState (e .state) Refresh ≡ true → is (requestDue e) K.WriteErrorInfo ≡ false
+due-in-refresh e h = rw (no-command (e .state) h, and-false (isWaiting (e .setup .queue))) (never-write (e .state))
+
+joined-plain : (k : Command) → isJoined k ≡ true → (is k K.WriteErrorInfo ≡ false) × (is k K.ReadErrorInfo ≡ false)
+joined-plain K.Connect h = absurd (false≢true h)
+joined-plain K.ConfirmNetwork h = absurd (false≢true h)
+joined-plain K.VerifyStation h = absurd (false≢true h)
+joined-plain K.InvokeFunc h = absurd (false≢true h)
+joined-plain K.Disconnect h = absurd (false≢true h)
+joined-plain K.ReadErrorInfo h = absurd (false≢true h)
+joined-plain K.WriteErrorInfo h = absurd (false≢true h)
+joined-plain K.RefreshReady h = absurd (false≢true h)
+joined-plain K.RefreshMo h = (refl, refl)
+joined-plain K.RefreshGo h = (refl, refl)
+joined-plain K.Refresh h = absurd (false≢true h)
+
+refresh-plain : (e : Endpoint) (t : ℕ) → is (refreshDue e t) K.WriteErrorInfo ≡ false
+refresh-plain e t =
+    go (e .settings .slave) (isOpen e t) (isPending (e .setup .pending))
+    (leb measurementInterval (t - e .measurement .reference))
+  where
+    go : (s o p m : Bool)
+        → is (cond s K.Refresh (cond o (cond p K.Refresh K.RefreshGo) (cond m K.RefreshMo K.Refresh))) K.WriteErrorInfo
+        ≡ false
+    go true o p m = refl
+    go false true true m = refl
+    go false true false m = refl
+    go false false p true = refl
+    go false false p false = refl
 
 -- the queue after a request waits to write only where it did
 still-waits : (b : Bool) (q : Queue) → isWriting (cond b Q.Closed q) ≡ true → isWriting q ≡ true
@@ -299,14 +347,25 @@ module _ (P : ErrorRecord → ErrorRecord) (one : OneToOne P) (c : Call) where
           plain = λ q. due-plain (neither w (r && false) q .0);
         }
 
+    measurement-bodies : (t : ℕ) → let s = setupData (e .settings) (refreshDue e t) in
+        Bodies P (measurementFields e (refreshDue e t) t) s s
+    measurement-bodies t = record {
+      carried = λ q. absurd (false≢true (sym (and-false (is (refreshDue e t) K.ReadErrorInfo))
+          ∙ (rw (refresh-plain e t) at q)));
+      plain = λ q. refl;
+    }
+
     pub send-both : (t : ℕ) (v : List ℕ) → Both P c (sendOf e t v) (sendOf (held e) t v)
     send-both t v =
         let a = firstOf (sendFaults e t (length v)) in
         let s = queueAfter (requestDue e) (e .setup .queue) in
         either (isDone a)
         (λ d. either (isState (e .state) Refresh)
-        (λ k. stays Done (refreshSentOf e t) (λ q. (q, refl)) (sends (refreshFields e t)
+        (λ k. either (isValueDue e t)
+        (λ v. stays Done (refreshSentOf e t) (λ q. (q, refl)) (sends (refreshFields e t)
         (record { carried = λ z. absurd (false≢true z); plain = λ z. refl })))
+        (λ v. stays Done (measurementSentOf e (refreshDue e t) t) (λ q. (q, refl))
+        (sends (measurementFields e (refreshDue e t) t) (measurement-bodies t))))
         (λ k. stays Done (requestedOf e t)
         (λ q. (less s (still-waits (is (requestDue e) K.RefreshReady) (e .setup .queue)) q, refl))
         (sends (requestFields e t)
@@ -343,16 +402,17 @@ module _ (P : ErrorRecord → ErrorRecord) (one : OneToOne P) (c : Call) where
       request-answer r n u =
           firstOf (setupFaults (not (isTurn e (f .command))) (lacksSession e f)
           (is (f .command) K.WriteErrorInfo && not r)
-          (not (isWidth (e .settings) (f .command) n)) (not (isAbove (e .timestamps .accepted) (f .timestamp)))
+          (not (isWidth (e .settings) (f .command) n))
+          (not (isAbove (e .timestamps .accepted) (f .timestamp)) || isStray e t f)
           (not (is (f .command) K.Disconnect || (isUsers (f .command) || u))))
 
-      request-same : firstOf (requestFaults (held e) f b′) ≡ firstOf (requestFaults e f b)
+      request-same : firstOf (requestFaults (held e) t f b′) ≡ firstOf (requestFaults e t f b)
       unfolding request-answer
       request-same =
           λ i. request-answer (A .records i) (A .long i) (bodies-same P one H (e .settings) i)
 
       -- what the reply carries
-      module _ (a : Answer) (is-a : firstOf (requestFaults e f b) ≡ a) where
+      module _ (a : Answer) (is-a : firstOf (requestFaults e t f b) ≡ a) where
         write-data : is (f .command) K.WriteErrorInfo ≡ true
             → Exchanged P (replyData e (f .command) (isDone a) b) (replyData (held e) (f .command) (isDone a) b′)
         write-data i =
@@ -363,7 +423,7 @@ module _ (P : ErrorRecord → ErrorRecord) (one : OneToOne P) (c : Call) where
         record-set : isDropped a ≡ false → is (f .command) K.ReadErrorInfo ≡ true → isLookedAt e ≡ true
         record-set n i =
             let k = f .command in
-            let d = not-dropped (requestFaults e f b) refl (ap isDropped is-a ∙ n) in
+            let d = not-dropped (requestFaults e t f b) refl (ap isDropped is-a ∙ n) in
             let q = and-right (not (isNo (nextOf k (e .state)))) (not (is k K.ReadErrorInfo) || hasRecord e)
             (not-false (isTurn e k) (d .turn)) in
             let r : hasRecord e ≡ true = rw i at q in
@@ -373,7 +433,7 @@ module _ (P : ErrorRecord → ErrorRecord) (one : OneToOne P) (c : Call) where
         one-word n i =
             let k = f .command in
             let s = e .settings in
-            let d = not-dropped (requestFaults e f b) refl (ap isDropped is-a ∙ n) in
+            let d = not-dropped (requestFaults e t f b) refl (ap isDropped is-a ∙ n) in
             let w = not-false (isWidth s k (length b)) (d .width) in
             let q : eqb (length b) (length (setupData s K.ReadErrorInfo)) ≡ true =
             rw (is-command k K.ReadErrorInfo i) at w in
@@ -438,8 +498,11 @@ module _ (P : ErrorRecord → ErrorRecord) (one : OneToOne P) (c : Call) where
           (likes (endedBy e (f .timestamp)) (λ q. (quiet Q.Empty refl q, refl)))
           (likes-by (is (f .command) K.WriteErrorInfo)
           (likes (reportedOf e (f .timestamp) m) (λ q. (quiet Q.Empty refl q, refl)))
+          (likes-by (isState (e .state) Refresh)
+          (likes-by (is (f .command) K.RefreshMo) (likes (remeasuredOf e t f) (λ q. (q, refl)))
+          (likes (adjustedOf e f) (λ q. (q, refl))))
           (likes-by (isHeldBack e (f .command)) (likes (deferredOf e t f) (λ q. (q, refl)))
-          (likes (advancedOf e t f) (λ q. (q, refl)))))
+          (likes (advancedOf e t f) (λ q. (q, refl))))))
 
       -- with this answer, and so many records to follow
       request-with : Answer → Bool → Outcome
@@ -450,7 +513,7 @@ module _ (P : ErrorRecord → ErrorRecord) (one : OneToOne P) (c : Call) where
       request-both : Both P c (takeRequest e t f b) (takeRequest (held e) t f b′)
       unfolding request-with
       request-both =
-          let a = firstOf (requestFaults e f b) in
+          let a = firstOf (requestFaults e t f b) in
           subst (Both P c (takeRequest e t f b)) (sym (ap₂ request-with request-same (A .more)))
           (record {
             answer = refl;
@@ -463,15 +526,23 @@ module _ (P : ErrorRecord → ErrorRecord) (one : OneToOne P) (c : Call) where
       module _ (m : e .settings .slave ≡ false)
           (reads : (is (f .command) K.ReadErrorInfo && f .ack) ≡ true → readsRecord c ≡ true) where
         abbrev turns : Bool
-        turns = isSetup (e .state) && (f .ack && (isPending (e .setup .pending) && is (f .command) (requestDue e)))
+        turns = f .ack && isReplyTurn e (f .command)
 
-        -- it is to the request due
-        to-due : turns ≡ true → f .command ≡ requestDue e
-        to-due q =
+        -- in setup it is to the request due
+        to-due : isState (e .state) Refresh ≡ false → turns ≡ true → f .command ≡ requestDue e
+        to-due n q =
             let p = isPending (e .setup .pending) in
             let i = is (f .command) (requestDue e) in
-            is-command (f .command) (requestDue e) (and-right p i (and-right (f .ack) (p && i)
-            (and-right (isSetup (e .state)) (f .ack && (p && i)) q)))
+            let z : (isSetup (e .state) && (p && i)) ≡ true =
+            rw n at (and-right (f .ack) (isReplyTurn e (f .command)) q) in
+            is-command (f .command) (requestDue e) (and-right p i (and-right (isSetup (e .state)) (p && i) z))
+
+        -- in Refresh it is a measurement's
+        to-measurement : isState (e .state) Refresh ≡ true → turns ≡ true → carriesRecord f ≡ false
+        to-measurement n q =
+            let z : isJoined (f .command) ≡ true = rw n at (and-right (f .ack) (isReplyTurn e (f .command)) q) in
+            let j = joined-plain (f .command) z in
+            rw (j .0, j .1)
 
         -- whose S-Data is exchanged where the reply's is, and else the same
         due-both : f .command ≡ requestDue e → carriesRecord f ≡ true → Exchanged P (dueData e) (dueData (held e))
@@ -498,20 +569,26 @@ module _ (P : ErrorRecord → ErrorRecord) (one : OneToOne P) (c : Call) where
         compared : turns ≡ true → (lengths b′ (dueData (held e)) ≡ lengths b (dueData e))
             × (same b′ (dueData (held e)) ≡ same b (dueData e))
         compared q =
-            let k = to-due q in
+            bcase (isState (e .state) Refresh)
+            (λ n.
+            let z = to-measurement n q in
+            let s = due-plain (due-in-refresh e n) in
+            (ap₂ lengths (H .plain z) s, ap₂ same (H .plain z) s))
+            (λ n. let k = to-due n q in
             bcase (carriesRecord f)
             (λ z.
             let d = due-both k z in
             (ap₂ eqb (A .long) (alike P one d .long), same-both P one (H .carried z) d))
-            (λ z. (ap₂ lengths (H .plain z) (due-same k z), ap₂ same (H .plain z) (due-same k z)))
+            (λ z. (ap₂ lengths (H .plain z) (due-same k z), ap₂ same (H .plain z) (due-same k z))))
 
         reply-answer : Bool → Bool → Bool → Answer
         reply-answer r w u =
             firstOf (setupFaults (not turns) (lacksNumber e f) (repliesRecord (f .command) && not r)
-            (not (is (f .command) K.ReadErrorInfo || w)) (not (answersTo (e .setup .pending) (f .timestamp)))
+            (not (is (f .command) K.ReadErrorInfo || w))
+            (not (answersTo (e .setup .pending) (f .timestamp) && isAwaited e t f))
             (f .error || not (isResult f || u)))
 
-        reply-same : firstOf (replyFaults (held e) f b′) ≡ firstOf (replyFaults e f b)
+        reply-same : firstOf (replyFaults (held e) t f b′) ≡ firstOf (replyFaults e t f b)
         unfolding reply-answer
         reply-same =
             bcase turns
@@ -536,9 +613,13 @@ module _ (P : ErrorRecord → ErrorRecord) (one : OneToOne P) (c : Call) where
 
         heard-both : Likes P (heardOf e t f) (heardOf (held e) t f)
         heard-both =
-            likes-by (f .busy) (likes (dueAgainOf e t) (λ q. (q, refl)))
+            likes-by (isState (e .state) Refresh)
+            (likes-by (is (f .command) K.RefreshMo)
+            (likes (withPending Nothing (withMeasured t (withAnswered true e))) (λ q. (q, refl)))
+            (likes (withPending Nothing (withAnswered false e)) (λ q. (q, refl))))
+            (likes-by (f .busy) (likes (dueAgainOf e t) (λ q. (q, refl)))
             (likes-by (isCommandDue e) (likes (performedOf e t) (λ q. (quiet Q.Empty refl q, refl)))
-            (likes (confirmedOf e t f) (λ q. (q, refl))))
+            (likes (confirmedOf e t f) (λ q. (q, refl)))))
 
         reply-with : Answer → Outcome
         reply-with a =
@@ -548,7 +629,7 @@ module _ (P : ErrorRecord → ErrorRecord) (one : OneToOne P) (c : Call) where
         reply-both : Both P c (takeReply e t f b) (takeReply (held e) t f b′)
         unfolding reply-with
         reply-both =
-            let a = firstOf (replyFaults e f b) in
+            let a = firstOf (replyFaults e t f b) in
             subst (Both P c (takeReply e t f b)) (sym (ap reply-with reply-same))
             (record {
               answer = refl;

@@ -188,7 +188,7 @@ fits true = tt
 fits false = lit< tt
 
 fields : ℕ → Command → Fields
-fields t k = sentFields k false (session (is k K.Connect)) cid t 0
+fields t k = sentFields k false false (session (is k K.Connect)) cid t 0
 
 bodyOf : Command → List ℕ
 bodyOf k = setupData (settingsAt list 0) k
@@ -259,7 +259,7 @@ wrote d [] = []
 wrote d (v ∷ vs) = let r = callIn d (v .0) (v .1) (v .2) in r .writes ∷ wrote (r .lent) vs
 
 replied : ℕ → Command → List ℕ → Written
-replied t k body = frame (ackFields k false false (Number number) cid t) body
+replied t k body = frame (ackFields k false false false (Number number) cid t) body
 
 replies : ErrorRecord → List Written
 replies x =

@@ -76,6 +76,8 @@ back e tidy =
       flag-back (e .setup .invoked),
       flag-back (e .station .notready),
       flag-back (e .value .taken),
+      flag-back (e .measurement .answered),
+      flag-back (e .measurement .sequence),
     )
 
 untaken : (taken : Bool) (bytes : List ℕ) → taken ≡ false → cond taken bytes noBytes ≡ noBytes

@@ -116,6 +116,11 @@ wholeOf s bytes words errorinfo = record {
     queue = queueFrom (s .queue);
     invoked = isSet (s .invoked);
   };
+  measurement = record {
+    answered = isSet (s .answered);
+    sequence = isSet (s .sequence);
+    reference = s .reference;
+  };
   station = record { notready = isSet (s .notready) };
   words = wordsOf (s .words) words;
   errorinfo = wordsOf (s .errorinfo) errorinfo;
@@ -164,6 +169,9 @@ storedOf e = record {
   valueage = e .value .age;
   session = sessionIn (e .session);
   hassession = flagOf (not (isAbsent (e .session)));
+  answered = flagOf (e .measurement .answered);
+  sequence = flagOf (e .measurement .sequence);
+  reference = e .measurement .reference;
 }
 
 abbrev pub recordWith : Stored → List ℕ → List ℕ → List ℕ → Record
@@ -204,6 +212,9 @@ endedStored s = record {
   valueage = 0;
   session = s .session;
   hassession = s .hassession;
+  answered = s .answered;
+  sequence = s .sequence;
+  reference = s .reference;
 }
 
 abbrev pub endedRecord : Record → Record

@@ -5,11 +5,14 @@ ghost use Rattle.endpoint.specs.Endpoint.{bare, coreOf};
 ghost use Rattle.frame.specs.declared.Command.the-variants as K;
 ghost use Rattle.frame.specs.Control.{is};
 ghost use Rattle.endpoint.specs.Table.{rowOf, requestOf};
-ghost use Rattle.endpoint.specs.Time.{isExpired};
+ghost use Rattle.endpoint.specs.Time.{isOutdated, isExpired};
+ghost use mathlib.Core.Bool.{cond};
+ghost use lib.Dec.{eqb};
 ghost use Rattle.records.specs.Records.{isSet, flagOf, stateFrom, timestampFrom, isAt, timeIn, pendingFrom, isAsked};
 ghost use Rattle.records.specs.Records.{askedIn, queueFrom, queueNumber, sessionIn, bareOf, storedOf};
 ghost use Rattle.records.specs.Records.{endedStored};
 use endpoint::Core;
+use endpoint::Measurement;
 use endpoint::Pending;
 use endpoint::Queue;
 use endpoint::Settings;
@@ -18,43 +21,46 @@ use endpoint::State;
 use endpoint::Station;
 use endpoint::Timestamp;
 use endpoint::Timestamps;
-use endpoint::time::passed;
+use endpoint::due::passed;
 use frame::Subconnection;
 use frame::control::is_absent;
 use frame::control::subconnection_of;
 
+// A slave's ts_offset serves for so many ticks.
+const OFFSET_LIFE: u64 = 30000;
+
 // All that a connection keeps, but for the bytes of its value, of its words and of its error record. A flag is 0, or
 // set; a timestamp and the session number count where their flags are set. What a call looks at in every record of the
-// table, the timer and the CID, stands first.
+// table stands first: the timer, the measurement of the clocks and the CID.
 #[repr(C)]
 pub struct Stored {
     // the clock reading where the timer starts
     pub since: u64,
+    // at a slave the s2 that ts_offset was reckoned with, at a master where the last measurement in Refresh began, or
+    // Refresh
+    pub reference: u64,
     // the settings
     pub interval: u32,
     pub roundtrip: u32,
     pub connection: u32,
-    pub age: u32,
-    pub station: u32,
     // 0 Close, 1 Starting, 2 EstablishPending, 3 Establish, 4 ParamVerify, 5 FuncRunning, 6 RefreshPending, 7 Refresh,
     // 9 TerminateMore; else Terminate
     pub state: u8,
     // of the settings too
     pub slave: u8,
+    // a master's request waits for its reply; a measurement in Refresh was answered and is not closed
+    pub hasasked: u8,
+    pub answered: u8,
+    // the timestamp of that request, and s2 or m2
+    pub asked: u64,
+    pub measured: u64,
+    // of the settings too
+    pub age: u32,
+    pub station: u32,
     pub masterwords: u8,
     pub slavewords: u8,
-    // the timestamps last sent and last accepted, and that of a master's request that waits for its reply
-    pub sent: u64,
-    pub accepted: u64,
-    pub asked: u64,
-    // s2 or m2, and ts_offset
-    pub measured: u64,
-    pub offset: u64,
-    // how old the value was when it was accepted, in ticks
-    pub valueage: u64,
     pub hassent: u8,
     pub hasaccepted: u8,
-    pub hasasked: u8,
     // setup requests written since the last start or loading
     pub requests: u8,
     // a master's queue: 0 Empty, 1 InvokeFunc, 2 ReadErrorInfo, 3 WriteErrorInfo; else Closed
@@ -62,6 +68,18 @@ pub struct Stored {
     // S-InvokeFunc has gone since the last start or loading
     pub invoked: u8,
     pub notready: u8,
+    // the timestamps last sent and last accepted
+    pub sent: u64,
+    pub accepted: u64,
+    // ts_offset
+    pub offset: u64,
+    // how old the value was when it was accepted, in ticks
+    pub valueage: u64,
+    // the session number
+    pub session: u16,
+    pub hassession: u8,
+    // Offset op seq of the last measurement
+    pub sequence: u8,
     // how many words its user has handed over: a master's queued S-InvokeFunc, a station's result; 0 none
     pub words: u8,
     // how many words the error record has that its user has handed over: a master's queued S-WriteErrorInfo, a station's
@@ -69,9 +87,6 @@ pub struct Stored {
     pub errorinfo: u8,
     // whether a value was accepted in this Refresh
     pub taken: u8,
-    // the session number
-    pub session: u16,
-    pub hassession: u8,
 }
 
 #[repr(C)]
@@ -248,6 +263,11 @@ pub fn core_of(s: Stored) -> Core
             queue: queue_from(s.queue),
             invoked: s.invoked != 0,
         },
+        measurement: Measurement {
+            answered: s.answered != 0,
+            sequence: s.sequence != 0,
+            reference: s.reference,
+        },
         station: Station {
             notready: s.notready != 0,
         },
@@ -299,6 +319,9 @@ pub fn stored_of(e: Core) -> Stored
         valueage: e.valueage,
         session: session_in(session),
         hassession: flag_of(!is_absent(session)),
+        answered: flag_of(e.measurement.answered),
+        sequence: flag_of(e.measurement.sequence),
+        reference: e.measurement.reference,
     }
 }
 
@@ -314,20 +337,43 @@ pub fn ended(s: Stored) -> Stored
     next
 }
 
+// ---- what a call asks of every record of the table: little code, so that the compiler keeps it within the call
+
+// The ticks of its timer: I in Refresh, else R.
+fn timer_of(s: Stored) -> u32
+    ensures { λ r. ⌜ r ≡ cond (eqb (s .state) 7) (s .interval) (s .roundtrip) ⌝ }
+{
+    if s.state == 7 {
+        s.interval
+    } else {
+        s.roundtrip
+    }
+}
+
+// Whether a slave's ts_offset is too old.
+fn is_outdated(s: Stored, clock: u64) -> bool
+    ensures { λ r. ⌜ r ≡ isOutdated (bareOf s) clock ⌝ }
+{
+    if s.state != 7 {
+        return false;
+    }
+    if passed(clock, OFFSET_LIFE) <= s.reference {
+        return false;
+    }
+    s.slave != 0
+}
+
 // Whether a clock reading ends the connection, by its numbers: every call asks it of every record.
 pub fn is_over(s: Stored, clock: u64) -> bool
     ensures { λ r. ⌜ r ≡ isExpired (bareOf s) clock ⌝ }
 {
-    if s.state == 7 {
-        if clock < s.since {
-            return false;
-        }
-        return (s.interval as u64) < clock - s.since;
+    if (s.state == 0) | (7 < s.state) {
+        return false;
     }
-    if s.state < 7 {
-        return (s.state != 0) & ((s.roundtrip as u64) < passed(clock, s.since));
+    if is_outdated(s, clock) {
+        return true;
     }
-    false
+    (timer_of(s) as u64) < passed(clock, s.since)
 }
 
 // Whether S-RefreshReady is due, by its numbers: in ParamVerify and FuncRunning.

@@ -12,12 +12,14 @@ use Rattle.frame.proofs.ReadBack.{round-trip}
 use Rattle.endpoint.specs.Endpoint.{Endpoint}
 use Rattle.endpoint.specs.declared.Answer.{Answer}
 use Rattle.endpoint.specs.Answers.{isDone}
+use Rattle.endpoint.specs.declared.State.{State}
+use Rattle.endpoint.specs.Table.{isSetup}
 use Rattle.endpoint.specs.Time.{afterTick}
 use Rattle.endpoint.specs.Due.{requestLimit}
 use Rattle.steps.specs.Frames.{Written, nothing, frame, value}
 use Rattle.steps.specs.Calls.{Outcome}
 use Rattle.steps.specs.Steps as S
-use Rattle.steps.specs.Laws.{Carries, requestsIn, isStart}
+use Rattle.steps.specs.Laws.{Carries, requestsIn, setupRequestsIn, isStart}
 use Rattle.steps.proofs.CallLaws.{step-laws}
 use Rattle.steps.proofs.Keeps.{bcase, Kept}
 use Rattle.records.specs.Records.{recordOf}
@@ -41,6 +43,11 @@ count-back e nothing c = refl
 count-back e (frame f body) c =
     ap (λ (b : Bool). cond b 1 0) (ap isRequestIn (round-trip .there f body (c .0) .0))
 count-back e (value bytes) c = refl
+
+-- a request counts where it is written in setup
+setup-back : (s : Bool) (b : Bool) (m : ℕ) → cond b 1 0 ≡ m → cond (s && b) 1 0 ≡ cond s m 0
+setup-back true b m h = h
+setup-back false b m h = refl
 
 -- no bytes are no request
 empty : isRequestIn (readingOf []) ≡ false
@@ -84,19 +91,20 @@ module _ (n : ℕ) (d : Lent) (count : ℕ) (H : Held n d count) (t : ℕ) where
 
   module _ (room : ℕ) where
     abbrev After : Call → Type 0
-    After c = Held n (callIn d t room c .lent) (countAfter n (call t room c) (callIn d t room c) count)
+    After c = Held n (callIn d t room c .lent) (countAfter n d (call t room c) (callIn d t room c) count)
 
     -- what holds of what the call comes to holds of the call
     comes : (c : Call) (r : Result) → callIn d t room c ≡ r
-        → Held n (r .lent) (countAfter n (call t room c) r count) → After c
+        → Held n (r .lent) (countAfter n d (call t room c) r count) → After c
     comes c r q h =
-        subst (λ (x : Result). Held n (x .lent) (countAfter n (call t room c) x count)) (sym q) h
+        subst (λ (x : Result). Held n (x .lent) (countAfter n d (call t room c) x count)) (sym q) h
 
     -- the clock step at most: no start is done, nothing is put on the bus
     idle : (c : Call) (r : Result) → callIn d t room c ≡ r → Held n (r .lent) count
         → (isStartOf n c && isDone (r .answer)) ≡ false → onBus (r .writes) ≡ [] → After c
     idle c r q k s w =
-        let none : countAfter n (call t room c) r count ≡ count = rw (s, w, empty, and-false (isAt (r .entry) n)) in
+        let none : countAfter n d (call t room c) r count ≡ count =
+        rw (s, w, empty, and-false (isSetup (endpointAt d n .state)), and-false (isAt (r .entry) n)) in
         comes c r q (subst (Held n (r .lent)) (sym none) k)
 
     -- ---- a connection's step
@@ -114,7 +122,7 @@ module _ (n : ℕ) (d : Lent) (count : ℕ) (H : Held n d count) (t : ℕ) where
       -- of another connection
       other : eqb k n ≡ false → After c
       other b =
-          let q : countAfter n (call t room c) (actedOf o t k d) count ≡ count =
+          let q : countAfter n d (call t room c) (actedOf o t k d) count ≡ count =
           rw (starts n names, b, and-false (isStart by)) in
           comes c (actedOf o t k d) is (subst (Held n (actedOf o t k d .lent)) (sym q) (record {
             whole = still-whole;
@@ -130,9 +138,14 @@ module _ (n : ℕ) (d : Lent) (count : ℕ) (H : Held n d count) (t : ℕ) where
           let i = eqb-true k n b in
           let kept : e .setup .requests ≡ count =
           ap (λ (j : ℕ). endpointAt d j .setup .requests) i ∙ H .same (rw i at (live .counted)) in
-          let more = added (isRequestIn (readingOf (onBus (o .writes)))) count (requestsIn (o .writes))
-          (count-back e (o .writes) (step-laws .carries e t by)) in
-          let q : countAfter n (call t room c) (actedOf o t k d) count ≡ o .endpoint .setup .requests =
+          let wrote = isRequestIn (readingOf (onBus (o .writes))) in
+          let state : endpointAt d n .state ≡ e .state =
+          ap (λ (j : ℕ). endpointAt d j .state) (sym i) in
+          let more = added (isSetup (endpointAt d n .state) && wrote) count (setupRequestsIn e (o .writes))
+          (ap (λ (s : State). cond (isSetup s && wrote) 1 0) state
+          ∙ setup-back (isSetup (e .state)) wrote (requestsIn (o .writes))
+          (count-back e (o .writes) (step-laws .carries e t by))) in
+          let q : countAfter n d (call t room c) (actedOf o t k d) count ≡ o .endpoint .setup .requests =
           rw (starts n names, b, and-true (isStart by), more, ← kept) (sym (step-laws .counts e t by)) in
           comes c (actedOf o t k d) is (subst (Held n (actedOf o t k d .lent)) (sym q) (record {
             whole = still-whole;

@@ -10,6 +10,7 @@ use Rattle.frame.specs.declared.Reading.the-variants.{Frame, Refused}
 use Rattle.frame.specs.Reading.{readingOf}
 use Rattle.endpoint.specs.Answers.{isDone}
 use Rattle.endpoint.specs.Due.{requestLimit}
+use Rattle.endpoint.specs.Table.{isSetup}
 use Rattle.steps.specs.Frames.{isRequest}
 use Rattle.steps.specs.Steps.{begins}
 use Rattle.records.specs.declared.Record.{Record}
@@ -20,7 +21,7 @@ use Rattle.runs.specs.Steps.{Call, act, send, deliver, show, Step, load, call, 
 use Rattle.runs.specs.Bus.{onBus}
 
 -- ---- the count as the answers and the bytes on the bus tell it
--- bytes that the reader takes for a setup request, a queued command among them: S-Disconnect is none, nor is a reply
+-- bytes that the reader takes for a request, a queued command among them: S-Disconnect is none, nor is a reply
 abbrev pub isRequestIn : Reading → Bool
 isRequestIn (Frame f from to) = isRequest f
 isRequestIn (Refused fault) = false
@@ -31,15 +32,16 @@ isStartOf n (send k value) = false
 isStartOf n (deliver s) = false
 isStartOf n (show k) = false
 
--- the call was the entry's, and it wrote a request
-abbrev pub wroteRequest : ℕ → Result → Bool
-wroteRequest n r = isAt (r .entry) n && isRequestIn (readingOf (onBus (r .writes)))
+-- the call was the entry's, which was in setup before it, and it wrote a request; a measurement's in Refresh is none
+abbrev pub wroteRequest : ℕ → Lent → Result → Bool
+wroteRequest n d r =
+    isAt (r .entry) n && (isSetup (endpointAt d n .state) && isRequestIn (readingOf (onBus (r .writes))))
 
--- a loading begins anew, and a start of the entry that is done; each request written adds one
-abbrev pub countAfter : ℕ → Step → Result → ℕ → ℕ
-countAfter n (load number ws rs) r count = 0
-countAfter n (call t room c) r count =
-    cond (isStartOf n c && isDone (r .answer)) 0 (cond (wroteRequest n r) (suc count) count)
+-- a loading begins anew, and a start of the entry that is done; each setup request written adds one
+abbrev pub countAfter : ℕ → Lent → Step → Result → ℕ → ℕ
+countAfter n d (load number ws rs) r count = 0
+countAfter n d (call t room c) r count =
+    cond (isStartOf n c && isDone (r .answer)) 0 (cond (wroteRequest n d r) (suc count) count)
 
 -- ---- a gateway, and the count of one entry
 pub record Watched : Type 0 where
@@ -50,7 +52,7 @@ abbrev pub watched : Lent → ℕ → Watched
 watched d count = record { lent = d; count = count }
 
 abbrev pub afterStep : ℕ → Watched → Step → Watched
-afterStep n x s = let r = stepIn (x .lent) s in watched (r .lent) (countAfter n s r (x .count))
+afterStep n x s = let r = stepIn (x .lent) s in watched (r .lent) (countAfter n (x .lent) s r (x .count))
 
 unfoldable pub afterSteps : ℕ → Watched → List Step → Watched
 afterSteps n x [] = x

@@ -70,8 +70,9 @@ unique ws n i j h ki kj ne q =
       | no h ↦ absurd (g (omega (arith, f, h)))
     ]
 
-ticks : (v : ℕ) → isTicks v ≡ true → v ≤ 65535
-ticks v h = leb-true v 65535 (and-right (leb 1 v) (leb v 65535) h)
+ticks : (v : ℕ) → isTicks v ≡ true → (1 ≤ v) × (v ≤ 65535)
+ticks v h =
+    (leb-true 1 v (and-left (leb 1 v) (leb v 65535) h), leb-true v 65535 (and-right (leb 1 v) (leb v 65535) h))
 
 in-ranges : (ws : List ℕ) (i : ℕ) → isConnectionAt ws i ≡ true → Ticks (settingsAt ws i)
 unfolding isConnectionAt settingsAt
@@ -85,10 +86,12 @@ in-ranges ws i h =
     let f = and-right (leb 1 (restOf (wordOf ws i 2) / 32 % 32) && leb (restOf (wordOf ws i 2) / 32 % 32) 25) _ e in
     let g = and-right (leb 1 (restOf (wordOf ws i 2) % 32) && leb (restOf (wordOf ws i 2) % 32) 25) _ f in
     let k = and-right (isTicks (restOf (wordOf ws i 3))) _ g in
+    let interval = ticks _ (and-left (isTicks (restOf (wordOf ws i 3))) _ g) in
     record {
-      interval = ticks _ (and-left (isTicks (restOf (wordOf ws i 3))) _ g);
-      roundtrip = ticks _ (and-left (isTicks (restOf (wordOf ws i 4))) _ k);
-      age = ticks _ (and-right (isTicks (restOf (wordOf ws i 4))) _ k);
+      some = interval .0;
+      interval = interval .1;
+      roundtrip = ticks _ (and-left (isTicks (restOf (wordOf ws i 4))) _ k) .1;
+      age = ticks _ (and-right (isTicks (restOf (wordOf ws i 4))) _ k) .1;
     }
 
 -- ---- the table

@@ -72,7 +72,9 @@ step-laws = record {
   stop-done = D.stop-done;
   refresh-done = D.refresh-done;
   request-done = D.request-done;
+  synchronization-done = D.synchronization-done;
   report-done = D.report-done;
   disconnect-done = D.disconnect-done;
   reply-done = D.reply-done;
+  measurement-heard = D.measurement-heard;
 }

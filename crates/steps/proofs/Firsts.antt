@@ -23,7 +23,7 @@ use Rattle.endpoint.specs.declared.Faults.{Faults}
 use Rattle.endpoint.specs.Answers.{firstOf, isDone, isDropped}
 use Rattle.endpoint.specs.Table.{isState}
 use Rattle.steps.specs.Frames.{sendWidth, setupData}
-use Rattle.steps.specs.Calls.{sendFaults}
+use Rattle.steps.specs.Calls.{isValueDue, sendFaults}
 use Rattle.errors.specs.Reading.{isRecord}
 use Rattle.steps.specs.Deliveries.{lacksRecord, isWidth, requestFaults}
 use Rattle.steps.proofs.Keeps.{bcase}
@@ -118,13 +118,13 @@ first-done f h =
     }
 
 -- ---- the length of what is sent and taken
--- a send in Refresh that is done has a value of the right length
-pub sent-width : (e : Endpoint) (t n : ℕ) → isState (e .state) Refresh ≡ true → firstOf (sendFaults e t n) ≡ Done
-    → n ≡ sendWidth (e .settings)
-sent-width e t n r h =
-    let w : (isState (e .state) Refresh && not (eqb n (sendWidth (e .settings)))) ≡ false = first-done
-    (sendFaults e t n) h .width in
-    let v : not (eqb n (sendWidth (e .settings))) ≡ false = rw r at w in
+-- a send in Refresh that is done, where the value is due, has one of the right length
+pub sent-width : (e : Endpoint) (t n : ℕ) → isState (e .state) Refresh ≡ true → isValueDue e t ≡ true
+    → firstOf (sendFaults e t n) ≡ Done → n ≡ sendWidth (e .settings)
+sent-width e t n r u h =
+    let w : (isState (e .state) Refresh && (isValueDue e t && not (eqb n (sendWidth (e .settings))))) ≡ false =
+    first-done (sendFaults e t n) h .width in
+    let v : not (eqb n (sendWidth (e .settings))) ≡ false = rw (r, u) at w in
     eqb-true n (sendWidth (e .settings)) (not-false (eqb n (sendWidth (e .settings))) v)
 
 -- the right length of a request's S-Data is one that S-Data can have, and so is an error record's
@@ -140,11 +140,11 @@ width-length s k body r w =
     rw (eqb-true n (length (setupData s k)) q) (setup-length s k)))
 
 -- a request that is not dropped has it
-pub request-width : (e : Endpoint) (f : Fields) (body : List ℕ) → isDropped (firstOf (requestFaults e f body)) ≡ false
+pub request-width : (e : Endpoint) (t : ℕ) (f : Fields) (body : List ℕ) → isDropped (firstOf (requestFaults e t f body)) ≡ false
     → isBodyLength (length body) ≡ true
-request-width e f body h =
+request-width e t f body h =
     let w = isWidth (e .settings) (f .command) (length body) in
-    let n = not-dropped (requestFaults e f body) refl h in
+    let n = not-dropped (requestFaults e t f body) refl h in
     width-length (e .settings) (f .command) body (n .norecord) (not-false w (n .width))
 
 -- neither of two

@@ -17,7 +17,9 @@ use Rattle.words.specs.Words.{wordBytes}
 use Rattle.words.specs.Output.{put, putWhole}
 use Rattle.endpoint.specs.declared.Answer.{Answer}
 use Rattle.endpoint.specs.declared.Answer.the-variants.{Done, Dropped, Ended}
+use Rattle.endpoint.specs.declared.State.the-variants.{Refresh}
 use Rattle.endpoint.specs.Endpoint.{Endpoint, Words, coreOf}
+use Rattle.endpoint.specs.Table.{isState}
 use Rattle.endpoint.specs.Due.{isCommandDue, isHeldBack}
 use Rattle.endpoint.specs.Time.{endedOf}
 use Rattle.transitions.specs.ByFrame.{refreshedOf, endedBy, takenOf, heardOf}
@@ -106,7 +108,9 @@ module _ (e : Endpoint) (w x : List ℕ) (t : ℕ) (f : Fields) where
   taken-core more =
       bcase (is (f .command) K.Disconnect) (λ h. rw h)
       (λ h. rw h (bcase (is (f .command) K.WriteErrorInfo) (λ i. rw i)
-      (λ i. rw i (bcase (isHeldBack e (f .command)) (λ b. rw b) (λ b. rw b)))))
+      (λ i. rw i (bcase (isState (e .state) Refresh)
+      (λ r. rw r (bcase (is (f .command) K.RefreshMo) (λ b. rw b) (λ b. rw b)))
+      (λ r. rw r (bcase (isHeldBack e (f .command)) (λ b. rw b) (λ b. rw b)))))))
 
   pub left-core : (more done : Bool) → coreOf (cond done (takenOf e t f more) (endedBy e (f .timestamp)))
       ≡ coreOf (cond done (takenOf held t f more) (endedBy held (f .timestamp)))
@@ -115,7 +119,8 @@ module _ (e : Endpoint) (w x : List ℕ) (t : ℕ) (f : Fields) where
 
   pub heard-core : coreOf (heardOf e t f) ≡ coreOf (heardOf held t f)
   heard-core =
-      bcase (f .busy) (λ h. rw h) (λ h. rw h (bcase (isCommandDue e) (λ b. rw b) (λ b. rw b)))
+      bcase (isState (e .state) Refresh) (λ r. rw r (bcase (is (f .command) K.RefreshMo) (λ b. rw b) (λ b. rw b)))
+      (λ r. rw r (bcase (f .busy) (λ h. rw h) (λ h. rw h (bcase (isCommandDue e) (λ b. rw b) (λ b. rw b)))))
 
 pub refused-core : (e : Endpoint) (w x : List ℕ) (a : Answer) → coreOf (leftBy a e (endedOf e) e)
     ≡ coreOf (leftBy a (withHanded w x e) (endedOf (withHanded w x e)) (withHanded w x e))
@@ -132,10 +137,10 @@ refresh-core e w x t stamp body (Dropped r) = refl
 refresh-core e w x t stamp body (Ended r) = refl
 
 -- a reply that is done has no more than 100 bytes
-pub reply-le : (e : Endpoint) (f : Fields) (body : List ℕ) → firstOf (replyFaults e f body) ≡ Done → length body ≤ 100
-reply-le e f body h =
+pub reply-le : (e : Endpoint) (t : ℕ) (f : Fields) (body : List ℕ) → firstOf (replyFaults e t f body) ≡ Done → length body ≤ 100
+reply-le e t f body h =
     let n = length (dueData e) in
-    let d = first-done (replyFaults e f body) h in
+    let d = first-done (replyFaults e t f body) h in
     bcase (is (f .command) K.ReadErrorInfo)
     (λ i.
     let l = record-bytes body (not-false (isRecord body) (rw i at (d .norecord))) .0 in omega (arith, l))

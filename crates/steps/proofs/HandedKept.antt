@@ -18,23 +18,25 @@ use Rattle.endpoint.specs.declared.State.the-variants.{FuncRunning, RefreshPend
 use Rattle.endpoint.specs.declared.State.the-variants.{TerminateMore}
 use Rattle.endpoint.specs.Endpoint.{Endpoint, wordsOf}
 use Rattle.endpoint.specs.declared.Reason.the-variants as R
+use Rattle.endpoint.specs.declared.Pending.the-variants.{Nothing}
 use Rattle.endpoint.specs.declared.Answer.{Answer}
 use Rattle.endpoint.specs.declared.Answer.the-variants.{Done, Dropped, Ended}
 use Rattle.endpoint.specs.Answers.{recordFaults, setupFaults, firstOf, isDone, isDropped, isEnded, leftBy}
-use Rattle.endpoint.specs.Table.{isState, isSetup, isTerminated, requestOf, nextOf, isNo}
-use Rattle.endpoint.specs.Due.{isWaiting, isCommandDue, requestDue, isPending, answersTo, isHeldBack, mayQueue}
-use Rattle.endpoint.specs.Due.{mayQueueRead}
+use Rattle.endpoint.specs.Table.{isState, isTerminated, requestOf, nextOf, isNo}
+use Rattle.endpoint.specs.Due.{isWaiting, isCommandDue, answersTo, isHeldBack, mayQueue, mayQueueRead}
 use Rattle.endpoint.specs.Time.{endedOf}
-use Rattle.endpoint.specs.Updates.{withWords, withErrorInfo, withNotReady}
+use Rattle.endpoint.specs.Updates.{withPending, withMeasured, withAnswered, withWords, withErrorInfo, withNotReady}
 use Rattle.transitions.specs.ByCall.{startedOf, restartedOf, stoppedOf, readQueuedOf}
 use Rattle.transitions.specs.ByFrame.{refreshedOf, deferredOf, advancedOf, answeredOf, reportedOf, takenOf, endedBy}
-use Rattle.transitions.specs.ByFrame.{dueAgainOf, performedOf, confirmedOf, heardOf}
+use Rattle.transitions.specs.ByFrame.{remeasuredOf, adjustedOf, synchronizedOf, dueAgainOf, performedOf, confirmedOf}
+use Rattle.transitions.specs.ByFrame.{setupHeardOf, measurementHeardOf, heardOf}
 use Rattle.steps.specs.Frames.{Written, nothing, frame, dueData, requestFields, replyFields, isBusy, replyData}
 use Rattle.steps.specs.Frames as W
 use Rattle.steps.specs.Frames.{paddedOf, hasRecord}
 use Rattle.steps.specs.Calls.{Outcome, outcome, dropped, handFaults, commandData, sendFaults, sendOf}
-use Rattle.steps.specs.Calls.{stopFaults, disconnectOf}
+use Rattle.steps.specs.Calls.{isValueDue, stopFaults, disconnectOf}
 use Rattle.steps.specs.Deliveries.{refreshFaults, isTurn, requestFaults, isResult, lacksNumber, repliesRecord}
+use Rattle.steps.specs.Deliveries.{isReplyTurn, isAwaited}
 use Rattle.steps.specs.Deliveries.{replyFaults, takeRefresh, takeRequest, takeReply, deliverOf}
 use Rattle.steps.specs.Steps.{Act, start, stop, restart, setNotReady, setResult, clearResult, setRecord}
 use Rattle.steps.specs.Steps.{clearRecord, invoke, readError, writeError, actOf}
@@ -141,9 +143,10 @@ module _ (e : Endpoint) (w x : List ℕ) where
         (record { answered = refl; writes = refl; left = refl })
 
     -- ---- a send and a deliver: what they leave, by a test and by the answer
-    by-test : (c : Bool) (y z : Endpoint) {z′ : Endpoint} → z′ ≡ held z → cond c (held y) z′ ≡ held (cond c y z)
-    by-test true y z p = refl
-    by-test false y z p = p
+    by-test : (c : Bool) (y z : Endpoint) {y′ z′ : Endpoint} → y′ ≡ held y → z′ ≡ held z
+        → cond c y′ z′ ≡ held (cond c y z)
+    by-test true y z p q = p
+    by-test false y z p q = q
 
     by-answer : (a : Answer) (y z v : Endpoint) {v′ : Endpoint} → v′ ≡ held v
         → leftBy a (held y) (held z) v′ ≡ held (leftBy a y z v)
@@ -162,7 +165,9 @@ module _ (e : Endpoint) (w x : List ℕ) where
       send-left value =
           let a = firstOf (sendFaults e t (length value)) in
           either (isDone a)
-          (either (isState (e .state) Refresh) (record { answered = refl; writes = refl; left = refl })
+          (either (isState (e .state) Refresh)
+          (either (isValueDue e t) (record { answered = refl; writes = refl; left = refl })
+          (record { answered = refl; writes = refl; left = refl }))
           (record { answered = refl; writes = ap (frame (requestFields e t)) due-apart; left = refl }))
           (record { answered = refl; writes = refl; left = by-answer a e (endedOf e) e refl })
 
@@ -181,10 +186,12 @@ module _ (e : Endpoint) (w x : List ℕ) where
         other-left : is (f .command) K.InvokeFunc ≡ false → is (f .command) K.ReadErrorInfo ≡ false
             → Left (deliver f body) (takeRequest e t f body) (takeRequest (held e) t f body)
         other-left n m =
-            let a = firstOf (requestFaults e f body) in
+            let a = firstOf (requestFaults e t f body) in
             let more = moreFollows body in
             let ends = endedBy e (f .timestamp) in
             let reports = reportedOf e (f .timestamp) more in
+            let refreshing = isState (e .state) Refresh in
+            let later = cond refreshing (synchronizedOf e t f) (answeredOf e t f) in
             let same : replyData (held e) (f .command) (isDone a) body ≡ replyData e (f .command) (isDone a) body =
             rw (n, m) in
             record {
@@ -192,9 +199,11 @@ module _ (e : Endpoint) (w x : List ℕ) where
               writes = ap (λ (l : List ℕ). cond (isDropped a || is (f .command) K.Disconnect) nothing
                   (frame (replyFields e f (isDone a && isBusy e (f .command) (length body)) (isEnded a)) l)) same;
               left = by-answer a e ends (takenOf e t f more) (by-test (is (f .command) K.Disconnect) ends
-                  (cond (is (f .command) K.WriteErrorInfo) reports (answeredOf e t f))
-                  (by-test (is (f .command) K.WriteErrorInfo) reports (answeredOf e t f)
-                  (by-test (isHeldBack e (f .command)) (deferredOf e t f) (advancedOf e t f) refl)));
+                  (cond (is (f .command) K.WriteErrorInfo) reports later) refl
+                  (by-test (is (f .command) K.WriteErrorInfo) reports later refl
+                  (by-test refreshing (synchronizedOf e t f) (answeredOf e t f)
+                  (by-test (is (f .command) K.RefreshMo) (remeasuredOf e t f) (adjustedOf e f) refl refl)
+                  (by-test (isHeldBack e (f .command)) (deferredOf e t f) (advancedOf e t f) refl refl))));
             }
 
         -- no state takes it
@@ -214,11 +223,11 @@ module _ (e : Endpoint) (w x : List ℕ) where
         reply-answer : List ℕ → Answer
         reply-answer d =
             firstOf (setupFaults
-            (not (isSetup (e .state) && (f .ack && (isPending (e .setup .pending) && is (f .command) (requestDue e)))))
+            (not (f .ack && isReplyTurn e (f .command)))
             (lacksNumber e f)
             (repliesRecord (f .command) && not (isRecord body))
             (not (is (f .command) K.ReadErrorInfo || eqb (length body) (length d)))
-            (not (answersTo (e .setup .pending) (f .timestamp)))
+            (not (answersTo (e .setup .pending) (f .timestamp) && isAwaited e t f))
             (f .error || not (isResult f || same body d)))
 
         reply-with : List ℕ → Outcome
@@ -230,10 +239,13 @@ module _ (e : Endpoint) (w x : List ℕ) where
         reply-left : Left (deliver f body) (takeReply e t f body) (takeReply (held e) t f body)
         unfolding reply-answer reply-with
         reply-left =
-            let a = firstOf (replyFaults e f body) in
+            let a = firstOf (replyFaults e t f body) in
             let next : heardOf (held e) t f ≡ held (heardOf e t f) =
-            by-test (f .busy) (dueAgainOf e t) (cond (isCommandDue e) (performedOf e t) (confirmedOf e t f))
-            (by-test (isCommandDue e) (performedOf e t) (confirmedOf e t f) refl) in
+            by-test (isState (e .state) Refresh) (measurementHeardOf e t f) (setupHeardOf e t f)
+            (by-test (is (f .command) K.RefreshMo) (withPending Nothing (withMeasured t (withAnswered true e)))
+            (withPending Nothing (withAnswered false e)) refl refl)
+            (by-test (f .busy) (dueAgainOf e t) (cond (isCommandDue e) (performedOf e t) (confirmedOf e t f)) refl
+            (by-test (isCommandDue e) (performedOf e t) (confirmedOf e t f) refl refl)) in
             subst (Left (deliver f body) (takeReply e t f body)) (sym (ap reply-with due-apart))
             (record { answered = refl; writes = refl; left = by-answer a e (endedOf e) (heardOf e t f) next })
 

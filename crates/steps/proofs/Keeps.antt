@@ -13,15 +13,18 @@ use Rattle.endpoint.specs.Endpoint.{Endpoint, Words}
 use Rattle.endpoint.specs.declared.Answer.{Answer}
 use Rattle.endpoint.specs.declared.Answer.the-variants.{Done, Dropped, Ended}
 use Rattle.endpoint.specs.declared.State.the-variants.{Refresh}
+use Rattle.endpoint.specs.declared.Pending.the-variants.{Nothing}
 use Rattle.endpoint.specs.Answers.{firstOf, isDone, isDropped, leftBy}
 use Rattle.endpoint.specs.Table.{isState}
 use Rattle.endpoint.specs.Time.{endedOf}
+use Rattle.endpoint.specs.Updates.{withPending, withMeasured, withAnswered}
 use Rattle.endpoint.specs.Due.{isCommandDue, isHeldBack}
 use Rattle.errors.specs.Reading.{moreFollows}
 use Rattle.transitions.specs.ByFrame.{deferredOf, answeredOf, reportedOf, takenOf, endedBy, advancedOf, refreshedOf}
-use Rattle.transitions.specs.ByFrame.{confirmedOf, dueAgainOf, performedOf, heardOf}
+use Rattle.transitions.specs.ByFrame.{remeasuredOf, adjustedOf, synchronizedOf, confirmedOf, dueAgainOf, performedOf}
+use Rattle.transitions.specs.ByFrame.{setupHeardOf, measurementHeardOf, heardOf}
 use Rattle.steps.specs.Frames.{paddedOf}
-use Rattle.steps.specs.Calls.{Outcome, refused, sendFaults, sendOf, stopFaults, stopOf}
+use Rattle.steps.specs.Calls.{Outcome, refused, isValueDue, sendFaults, sendOf, stopFaults, stopOf}
 use Rattle.steps.specs.Deliveries.{requestFaults, refreshFaults, replyFaults, takeRefresh, takeRequest}
 use Rattle.steps.specs.Deliveries.{takeReply, deliverOf}
 use Rattle.steps.proofs.Dispatch.{deliver-echo, deliver-refresh, deliver-request, deliver-reply}
@@ -64,7 +67,8 @@ module _ (e : Endpoint) (t : ℕ) where
   pub send-keeps : (value : List ℕ) → lasting (sendOf e t value .endpoint) ≡ lasting e
   send-keeps value =
       let a = firstOf (sendFaults e t (length value)) in
-      bcase (isDone a) (λ h. rw h (bcase (isState (e .state) Refresh) (λ k. rw k) (λ k. rw k)))
+      bcase (isDone a) (λ h. rw h (bcase (isState (e .state) Refresh)
+      (λ k. rw k (bcase (isValueDue e t) (λ v. rw v) (λ v. rw v))) (λ k. rw k)))
       (λ h. rw h (lasts e (refused e a .endpoint) (refused-keeps a)))
 
   pub stop-keeps : kept (stopOf e t .endpoint) ≡ kept e
@@ -74,19 +78,26 @@ module _ (e : Endpoint) (t : ℕ) where
   deliver-keeps f body =
       let s = kept e in
       let more = moreFollows body in
+      let refreshing = isState (e .state) Refresh in
+      let later = cond refreshing (synchronizedOf e t f) (answeredOf e t f) in
       let p : kept (takeRefresh e t (f .subconnection) (f .timestamp) body .endpoint) ≡ s =
       left-keeps s (firstOf (refreshFaults e t (f .subconnection) (f .timestamp) (length body))) e (endedOf e)
       (refreshedOf e t (f .timestamp) (paddedOf body)) refl refl refl in
       let q : kept (takeRequest e t f body .endpoint) ≡ s =
-      left-keeps s (firstOf (requestFaults e f body)) e (endedBy e (f .timestamp)) (takenOf e t f more) refl refl
+      left-keeps s (firstOf (requestFaults e t f body)) e (endedBy e (f .timestamp)) (takenOf e t f more) refl refl
       (either-keeps s (is (f .command) K.Disconnect) (endedBy e (f .timestamp))
-      (cond (is (f .command) K.WriteErrorInfo) (reportedOf e (f .timestamp) more) (answeredOf e t f)) refl
-      (either-keeps s (is (f .command) K.WriteErrorInfo) (reportedOf e (f .timestamp) more) (answeredOf e t f) refl
-      (either-keeps s (isHeldBack e (f .command)) (deferredOf e t f) (advancedOf e t f) refl refl))) in
+      (cond (is (f .command) K.WriteErrorInfo) (reportedOf e (f .timestamp) more) later) refl
+      (either-keeps s (is (f .command) K.WriteErrorInfo) (reportedOf e (f .timestamp) more) later refl
+      (either-keeps s refreshing (synchronizedOf e t f) (answeredOf e t f)
+      (either-keeps s (is (f .command) K.RefreshMo) (remeasuredOf e t f) (adjustedOf e f) refl refl)
+      (either-keeps s (isHeldBack e (f .command)) (deferredOf e t f) (advancedOf e t f) refl refl)))) in
       let r : kept (takeReply e t f body .endpoint) ≡ s =
-      left-keeps s (firstOf (replyFaults e f body)) e (endedOf e) (heardOf e t f) refl refl
+      left-keeps s (firstOf (replyFaults e t f body)) e (endedOf e) (heardOf e t f) refl refl
+      (either-keeps s refreshing (measurementHeardOf e t f) (setupHeardOf e t f)
+      (either-keeps s (is (f .command) K.RefreshMo) (withPending Nothing (withMeasured t (withAnswered true e)))
+      (withPending Nothing (withAnswered false e)) refl refl)
       (either-keeps s (f .busy) (dueAgainOf e t) (cond (isCommandDue e) (performedOf e t) (confirmedOf e t f)) refl
-      (either-keeps s (isCommandDue e) (performedOf e t) (confirmedOf e t f) refl refl)) in
+      (either-keeps s (isCommandDue e) (performedOf e t) (confirmedOf e t f) refl refl))) in
       let of : Outcome → Kept = λ o. kept (o .endpoint) in
       bcase (Bool·beq (f .application) (e .settings .slave)) (λ h. ap of (deliver-echo e t f body h))
       (λ h. bcase (is (f .command) K.Refresh) (λ k. ap of (deliver-refresh e t f body h k) ∙ p)

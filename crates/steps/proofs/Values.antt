@@ -11,23 +11,24 @@ use Rattle.endpoint.specs.declared.State.the-variants.{Close, Refresh}
 use Rattle.endpoint.specs.Endpoint.{Endpoint, wordsOf, valueOf}
 use Rattle.endpoint.specs.declared.Reason.{Reason}
 use Rattle.endpoint.specs.declared.Reason.the-variants as R
+use Rattle.endpoint.specs.declared.Pending.the-variants.{Nothing}
 use Rattle.endpoint.specs.declared.Answer.{Answer}
 use Rattle.endpoint.specs.declared.Answer.the-variants.{Done, Dropped, Ended}
 use Rattle.endpoint.specs.Answers.{recordFaults, firstOf, isDone, isDropped, leftBy}
 use Rattle.endpoint.specs.Table.{isState, isTerminated}
-use Rattle.endpoint.specs.Due.{isCommandDue, isHeldBack, mayQueue, mayQueueRead}
+use Rattle.endpoint.specs.Due.{isCommandDue, isHeldBack, mayQueue, mayQueueRead, refreshDue}
 use Rattle.errors.specs.Reading.{isRecord, moreFollows}
 use Rattle.endpoint.specs.Time.{ageOf, countedAge, noValue, Tidy, endedOf, afterTick, isExpired}
-use Rattle.endpoint.specs.Updates.{holding, withWords, withErrorInfo, withNotReady}
+use Rattle.endpoint.specs.Updates.{holding, withPending, withMeasured, withAnswered, withWords, withErrorInfo}
+use Rattle.endpoint.specs.Updates.{withNotReady}
 use Rattle.transitions.specs.ByCall.{startedOf, restartedOf, requestedOf, refreshSentOf, stoppedOf, invokedOf}
-use Rattle.transitions.specs.ByCall.{readQueuedOf, writeQueuedOf}
+use Rattle.transitions.specs.ByCall.{measurementSentOf, readQueuedOf, writeQueuedOf}
 use Rattle.transitions.specs.ByFrame.{refreshedOf, deferredOf, advancedOf, reportedOf, takenOf, endedBy, confirmedOf}
-use Rattle.transitions.specs.ByFrame.{dueAgainOf}
-use Rattle.transitions.specs.ByFrame.{performedOf, heardOf}
-use Rattle.steps.specs.Frames.{Written, nothing, frame, dueData, requestFields, refreshFields}
-use Rattle.steps.specs.Frames.{paddedOf}
+use Rattle.transitions.specs.ByFrame.{remeasuredOf, adjustedOf, dueAgainOf, performedOf, heardOf}
+use Rattle.steps.specs.Frames.{Written, nothing, frame, setupData, dueData, requestFields, measurementFields}
+use Rattle.steps.specs.Frames.{refreshFields, paddedOf}
 use Rattle.steps.specs.Calls.{Outcome, outcome, handFaults, commandData, sendFaults, sendOf, stopFaults}
-use Rattle.steps.specs.Calls.{disconnectOf, keptRecord}
+use Rattle.steps.specs.Calls.{isValueDue, disconnectOf, keptRecord}
 use Rattle.steps.specs.Deliveries.{refreshFaults, requestFaults, replyFaults, takeRefresh, takeRequest}
 use Rattle.steps.specs.Deliveries.{takeReply, deliverOf}
 use Rattle.steps.specs.Steps.{Act, start, stop, restart, setNotReady, setResult, clearResult, setRecord}
@@ -131,7 +132,10 @@ module _ (e : Endpoint) (b : List ℕ) (h : Tidy (withBytes b e)) where
     send-left value =
         let a = firstOf (sendFaults e t (length value)) in
         either (isDone a)
-        (either (isState (e .state) Refresh) (kept Done (refreshSentOf e t) (frame (refreshFields e t) value) refl refl)
+        (either (isState (e .state) Refresh)
+        (either (isValueDue e t) (kept Done (refreshSentOf e t) (frame (refreshFields e t) value) refl refl)
+        (kept Done (measurementSentOf e (refreshDue e t) t)
+        (frame (measurementFields e (refreshDue e t) t) (setupData (e .settings) (refreshDue e t))) refl refl))
         (kept Done (requestedOf e t) (frame (requestFields e t) (dueData e)) refl refl))
         (by-answer a (endedOf e) (kept Done e nothing refl refl))
 
@@ -153,20 +157,27 @@ module _ (e : Endpoint) (b : List ℕ) (h : Tidy (withBytes b e)) where
         taken-left w =
             leaves (is (f .command) K.Disconnect) (wiped Done (endedBy e (f .timestamp)) w)
             (leaves (is (f .command) K.WriteErrorInfo) (wiped Done (reportedOf e (f .timestamp) more) w)
+            (leaves (isState (e .state) Refresh)
+            (leaves (is (f .command) K.RefreshMo) (kept Done (remeasuredOf e t f) w n refl)
+            (kept Done (adjustedOf e f) w n refl))
             (leaves (isHeldBack e (f .command)) (kept Done (deferredOf e t f) w n refl)
-            (wiped Done (advancedOf e t f) w)))
+            (wiped Done (advancedOf e t f) w))))
 
         heard-left : (w : Written)
             → Left (deliver f body) (outcome Done (heardOf e t f) w) (outcome Done (heardOf (withBytes b e) t f) w)
         heard-left w =
-            leaves (f .busy) (kept Done (dueAgainOf e t) w n refl)
-            (leaves (isCommandDue e) (kept Done (performedOf e t) w n refl) (wiped Done (confirmedOf e t f) w))
+            leaves (isState (e .state) Refresh)
+            (leaves (is (f .command) K.RefreshMo)
+            (kept Done (withPending Nothing (withMeasured t (withAnswered true e))) w n refl)
+            (kept Done (withPending Nothing (withAnswered false e)) w n refl))
+            (leaves (f .busy) (kept Done (dueAgainOf e t) w n refl)
+            (leaves (isCommandDue e) (kept Done (performedOf e t) w n refl) (wiped Done (confirmedOf e t f) w)))
 
         request-left : Left (deliver f body) (takeRequest e t f body) (takeRequest (withBytes b e) t f body)
-        request-left = by-answer (firstOf (requestFaults e f body)) (endedBy e (f .timestamp)) (taken-left _)
+        request-left = by-answer (firstOf (requestFaults e t f body)) (endedBy e (f .timestamp)) (taken-left _)
 
         reply-left : Left (deliver f body) (takeReply e t f body) (takeReply (withBytes b e) t f body)
-        reply-left = by-answer (firstOf (replyFaults e f body)) (endedOf e) (heard-left _)
+        reply-left = by-answer (firstOf (replyFaults e t f body)) (endedOf e) (heard-left _)
 
       deliver-left : Left (deliver f body) (deliverOf e t f body) (deliverOf (withBytes b e) t f body)
       deliver-left =

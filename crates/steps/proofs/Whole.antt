@@ -13,7 +13,7 @@ use Rattle.frame.specs.declared.Command.{Command}
 use Rattle.frame.specs.declared.Command.the-variants as K
 use Rattle.frame.specs.declared.Subconnection.{Subconnection}
 use Rattle.frame.specs.declared.Fields.{Fields}
-use Rattle.frame.specs.Control.{is, isAbsent, waitsForStation, mayBeBusy, hasForm}
+use Rattle.frame.specs.Control.{is, isAbsent, waitsForStation, mayBeBusy, isJoined, hasForm}
 use Rattle.frame.specs.Writing.{frameBytes, isBodyLength, isWritable, writtenOf, headOf, HeadSays}
 use mathlib.Mathlib.Data.Bool.Basic.{and-elim-left as and-left, and-elim-right as and-right, and-intro as both}
 use Rattle.frame.proofs.Lengths.{can-be-written}
@@ -32,10 +32,11 @@ use Rattle.endpoint.specs.Endpoint.{Endpoint, Words}
 use Rattle.endpoint.specs.Table.{requestOf}
 use Rattle.endpoint.specs.Due.{isCommandDue, queuedIn, requestDue}
 use Rattle.endpoint.specs.Time.{span, timeOf}
+use Rattle.transitions.specs.ByCall.{measurementAfter}
 use Rattle.steps.specs.Frames.{setupData, isCount, widthOf, paddedOf, handedOver, isRecordCount, recordWidth}
 use Rattle.steps.specs.Frames.{recordIn, dataOf, dueData, sendWidth, showWidth, sessionOf, sessionWith, sentFields}
 use Rattle.steps.specs.Frames.{ackFields, baselineOf, requestFields, refreshFields, disconnectFields, replyFields}
-use Rattle.steps.specs.Frames.{hasResult, isPerformed, isBusy, replyData}
+use Rattle.steps.specs.Frames.{measurementFields, hasResult, isPerformed, isBusy, replyData}
 use Rattle.steps.proofs.Keeps.{bcase}
 
 -- the frame of the fields, all of it, and the rest of the output stays
@@ -64,6 +65,7 @@ setup-length s K.InvokeFunc = refl
 setup-length s K.ReadErrorInfo = refl
 setup-length s K.WriteErrorInfo = refl
 setup-length s K.RefreshReady = refl
+setup-length s K.RefreshMo = refl
 setup-length s K.RefreshGo = refl
 setup-length s K.Refresh = refl
 setup-length s K.Disconnect = refl
@@ -168,7 +170,7 @@ carried : (e : Endpoint) (k : Command) → Carried (sessionWith e k) k
 carried e k = bcase (is k K.Connect) (λ h. rw h) (λ h. rw h (or-true (isAbsent (sessionOf e))))
 
 request-form : (s : State) (n : Subconnection) (connection timestamp t measured : ℕ) → Carried n (requestOf s)
-    → hasForm (sentFields (requestOf s) false n connection timestamp (baselineOf (requestOf s) t measured)) ≡ true
+    → hasForm (sentFields (requestOf s) false false n connection timestamp (baselineOf (requestOf s) t measured)) ≡ true
 unfolding hasForm
 request-form Close n connection timestamp t measured c = c
 request-form Starting n connection timestamp t measured c = c
@@ -190,14 +192,29 @@ baseline-fits k t measured = go (is k K.RefreshGo)
     go false = lit< tt
 
 -- a reply: to any command but S-Refresh and S-Disconnect
-reply-form : (k : Command) (busy error : Bool) (n : Subconnection) (connection timestamp : ℕ) → is k K.Refresh ≡ false
-    → is k K.Disconnect ≡ false → (not busy || mayBeBusy k) ≡ true
-    → hasForm (ackFields k busy error n connection timestamp) ≡ true
+reply-form : (k : Command) (busy error sequence : Bool) (n : Subconnection) (connection timestamp : ℕ)
+    → is k K.Refresh ≡ false → is k K.Disconnect ≡ false → (not busy || mayBeBusy k) ≡ true
+    → (not sequence || isJoined k) ≡ true → hasForm (ackFields k busy error sequence n connection timestamp) ≡ true
 unfolding hasForm
-reply-form k busy error n connection timestamp r d b = rw (r, d, b, or-true (not error), or-true (isAbsent n))
+reply-form k busy error sequence n connection timestamp r d b s =
+    rw (r, d, b, s, or-true (not error), or-true (isAbsent n))
+
+-- Offset op seq is repeated where it may stand
+joined-fits : (j s : Bool) → (not (j && s) || j) ≡ true
+joined-fits true s = or-true (not s)
+joined-fits false s = refl
+
+-- S-RefreshGO in Refresh, or S-RefreshMO
+measurement-form : (go sequence : Bool) (n : Subconnection) (connection timestamp t measured : ℕ)
+    → let k = cond go K.RefreshGo K.RefreshMo in
+    hasForm (sentFields k sequence false n connection timestamp (baselineOf k t measured)) ≡ true
+unfolding hasForm
+measurement-form true sequence n connection timestamp t measured =
+    rw (or-true (eqb ((t - measured) % 65536) 0), or-true (not sequence), or-true (isAbsent n))
+measurement-form false sequence n connection timestamp t measured = rw (or-true (not sequence), or-true (isAbsent n))
 
 queued-form : (q : Queue) (n : Subconnection) (connection timestamp t measured : ℕ) → Carried n (queuedIn q)
-    → hasForm (sentFields (queuedIn q) false n connection timestamp (baselineOf (queuedIn q) t measured)) ≡ true
+    → hasForm (sentFields (queuedIn q) false false n connection timestamp (baselineOf (queuedIn q) t measured)) ≡ true
 unfolding hasForm
 queued-form Q.Empty n connection timestamp t measured c = c
 queued-form Q.InvokeFunc n connection timestamp t measured c = c
@@ -207,7 +224,7 @@ queued-form Q.Closed n connection timestamp t measured c = c
 
 -- the queued command in S-RefreshReady's place
 due-form : (e : Endpoint) (n : Subconnection) (connection timestamp t measured : ℕ) → Carried n (requestDue e)
-    → hasForm (sentFields (requestDue e) false n connection timestamp (baselineOf (requestDue e) t measured)) ≡ true
+    → hasForm (sentFields (requestDue e) false false n connection timestamp (baselineOf (requestDue e) t measured)) ≡ true
 due-form e n connection timestamp t measured c =
     bcase (isCommandDue e) (λ h. rw h (queued-form (e .setup .queue) n connection timestamp t measured (rw h at c)))
     (λ h. rw h (request-form (e .state) n connection timestamp t measured (rw h at c)))
@@ -236,6 +253,14 @@ module _ (e : Endpoint) (t : ℕ) where
       (due-form e (sessionWith e (requestDue e)) (e .settings .connection) (timeOf e t) t (e .setup .measured)
       (carried e (requestDue e))) (omega arith) (due-length e)
 
+  pub measurement-writable : (go : Bool) → let k = cond go K.RefreshGo K.RefreshMo in
+      isWritable (measurementFields e k t) (length (setupData (e .settings) k)) ≡ true
+  measurement-writable go =
+      let k = cond go K.RefreshGo K.RefreshMo in
+      writable (measurementFields e k t) (length (setupData (e .settings) k))
+      (measurement-form go (measurementAfter k t (e .measurement) .sequence) (sessionOf e)
+      (e .settings .connection) (timeOf e t) t (e .setup .measured)) (omega arith) (setup-length (e .settings) k)
+
   pub refresh-writable : (n : ℕ) → isBodyLength n ≡ true → isWritable (refreshFields e t) n ≡ true
   unfolding hasForm
   refresh-writable n l = writable (refreshFields e t) n (or-true (isAbsent (sessionOf e))) (omega arith) l
@@ -254,9 +279,10 @@ module _ (e : Endpoint) (t : ℕ) where
   reply-writable f done error body r d l =
       let busy = done && isBusy e (f .command) (length body) in
       writable (replyFields e f busy error) (length (replyData e (f .command) done body))
-      (reply-form (f .command) busy error (sessionOf e) (e .settings .connection) (f .timestamp % span) r d
+      (reply-form (f .command) busy error (isJoined (f .command) && f .sequence) (sessionOf e)
+      (e .settings .connection) (f .timestamp % span) r d
       (busy-fits done (e .station .notready) (waitsForStation (f .command)) (is (f .command) K.InvokeFunc)
-      (hasResult e (length body)))) (omega arith) (reply-length e (f .command) done body l)
+      (hasResult e (length body))) (joined-fits (isJoined (f .command)) (f .sequence))) (omega arith) (reply-length e (f .command) done body l)
 
 pub send-width-length : (s : Settings) → isBodyLength (sendWidth s) ≡ true
 send-width-length s = value-length (cond (s .slave) (s .slavewords) (s .masterwords))

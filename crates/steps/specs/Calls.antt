@@ -5,7 +5,9 @@ use mathlib.Core.List.{List, _++_}
 use Prim.Native.Nat.{ℕ, _/_}
 use lib.Dec.{eqb}
 use lib.ListN.{length, take, replicate}
+use Rattle.frame.specs.declared.Command.{Command}
 use Rattle.frame.specs.declared.Command.the-variants as K
+use Rattle.frame.specs.Control.{is}
 use Rattle.frame.specs.Writing.{isBodyLength}
 use Rattle.words.specs.Words.{wordBytes}
 use Rattle.errors.specs.Reading.{isRecord}
@@ -19,13 +21,13 @@ use Rattle.endpoint.specs.declared.Answer.the-variants.{Done, Dropped}
 use Rattle.endpoint.specs.declared.Faults.{Faults}
 use Rattle.endpoint.specs.Answers.{callFaults, recordFaults, firstOf, isDone, isDropped, leftBy}
 use Rattle.endpoint.specs.Table.{isState, isTerminated}
-use Rattle.endpoint.specs.Due.{mayRequest, isExhausted, mayQueue, mayQueueRead}
+use Rattle.endpoint.specs.Due.{mayRequest, isExhausted, mayQueue, mayQueueRead, refreshDue}
 use Rattle.endpoint.specs.Time.{isAbove, heldAge, endedOf, timeOf}
 use Rattle.endpoint.specs.Updates.{withWords, withErrorInfo, withNotReady}
 use Rattle.transitions.specs.ByCall.{startedOf, restartedOf, requestedOf, refreshSentOf, stoppedOf, invokedOf}
-use Rattle.transitions.specs.ByCall.{readQueuedOf, writeQueuedOf}
+use Rattle.transitions.specs.ByCall.{measurementSentOf, readQueuedOf, writeQueuedOf}
 use Rattle.steps.specs.Frames.{Written, nothing, frame, setupData, dueData, sendWidth, showWidth, requestFields}
-use Rattle.steps.specs.Frames.{refreshFields, disconnectFields, paddedOf, paddedRecord}
+use Rattle.steps.specs.Frames.{measurementFields, refreshFields, disconnectFields, paddedOf, paddedRecord}
 
 -- what a call comes to: its answer, the endpoint it leaves, what it writes
 pub record Outcome : Type 0 where
@@ -121,22 +123,33 @@ writeErrorOf e body = recordWith (mayQueue e) (writeQueuedOf e (keptRecord body)
 abbrev pub readErrorOf : Endpoint → Outcome
 readErrorOf e = cond (mayQueueRead e) (outcome Done (readQueuedOf e) nothing) (dropped e (Dropped R.Turn))
 
--- ---- send: a master's next request in setup if none is pending; S-Refresh in Refresh
+-- ---- send: a master's next request in setup if none is pending; in Refresh a measurement's, or S-Refresh
+-- it writes the value that is lent; S-RefreshMO and S-RefreshGO go whatever it is
+abbrev pub isValueDue : Endpoint → ℕ → Bool
+isValueDue e t = is (refreshDue e t) K.Refresh
+
 -- of a send with this timestamp
-abbrev pub sendFaultsAt : Endpoint → ℕ → ℕ → Faults
-sendFaultsAt e stamp width =
+abbrev pub sendFaultsAt : Endpoint → ℕ → ℕ → ℕ → Faults
+sendFaultsAt e t stamp width =
     callFaults (not (isState (e .state) Refresh || mayRequest e))
-    (isState (e .state) Refresh && not (eqb width (sendWidth (e .settings)))) (mayRequest e && isExhausted e)
-    (not (isAbove (e .timestamps .sent) stamp))
+    (isState (e .state) Refresh && (isValueDue e t && not (eqb width (sendWidth (e .settings)))))
+    (mayRequest e && isExhausted e) (not (isAbove (e .timestamps .sent) stamp))
 
 -- the same, with the endpoint's time
 abbrev pub sendFaults : Endpoint → ℕ → ℕ → Faults
-sendFaults e t width = sendFaultsAt e (timeOf e t) width
+sendFaults e t width = sendFaultsAt e t (timeOf e t) width
+
+-- what a send of S-RefreshMO or S-RefreshGO in Refresh comes to
+abbrev pub measurementOutcome : Endpoint → Command → ℕ → Outcome
+measurementOutcome e k t =
+    outcome Done (measurementSentOf e k t) (frame (measurementFields e k t) (setupData (e .settings) k))
 
 -- what a send that is done comes to
 abbrev pub sentOf : Endpoint → ℕ → List ℕ → Outcome
 sentOf e t value =
-    cond (isState (e .state) Refresh) (outcome Done (refreshSentOf e t) (frame (refreshFields e t) value))
+    cond (isState (e .state) Refresh)
+    (cond (isValueDue e t) (outcome Done (refreshSentOf e t) (frame (refreshFields e t) value))
+    (measurementOutcome e (refreshDue e t) t))
     (outcome Done (requestedOf e t) (frame (requestFields e t) (dueData e)))
 
 abbrev pub sendOf : Endpoint → ℕ → List ℕ → Outcome

@@ -8,7 +8,7 @@ use Rattle.frame.specs.declared.Command.{Command}
 use Rattle.frame.specs.declared.Command.the-variants as K
 use Rattle.frame.specs.declared.Subconnection.{Subconnection}
 use Rattle.frame.specs.declared.Fields.{Fields}
-use Rattle.frame.specs.Control.{is, isAbsent, isSame}
+use Rattle.frame.specs.Control.{is, isJoined, isAbsent, isSame}
 use Rattle.frame.specs.Writing.{isBodyLength}
 use Rattle.words.specs.Bytes.{same}
 use Rattle.errors.specs.Reading.{isRecord, moreFollows}
@@ -21,7 +21,7 @@ use Rattle.endpoint.specs.declared.Answer.the-variants.{Dropped}
 use Rattle.endpoint.specs.declared.Faults.{Faults}
 use Rattle.endpoint.specs.Answers.{setupFaults, valueFaults, firstOf, isDone, isDropped, isEnded, leftBy}
 use Rattle.endpoint.specs.Table.{isState, isSetup, nextOf, isNo}
-use Rattle.endpoint.specs.Due.{requestDue, isPending, answersTo}
+use Rattle.endpoint.specs.Due.{requestDue, isPending, answersTo, isLate, awaitedIn, sequenceOf, isMeasuring}
 use Rattle.endpoint.specs.Time.{ageOf, isAbove, isTooFarAhead, allowanceOf, isTooLate, endedOf}
 use Rattle.transitions.specs.ByFrame.{refreshedOf, endedBy, takenOf, heardOf}
 use Rattle.steps.specs.Frames.{Written, nothing, frame, setupData, dueData, showWidth, replyFields, isBusy}
@@ -77,13 +77,18 @@ isUsers k = is k K.InvokeFunc || is k K.WriteErrorInfo
 abbrev pub isExpected : Settings → Command → List ℕ → Bool
 isExpected s k body = is k K.Disconnect || (isUsers k || same body (setupData s k))
 
-abbrev pub requestFaults : Endpoint → Fields → List ℕ → Faults
-requestFaults e f body =
+-- S-RefreshGO of another measurement than the one under way, or of none
+abbrev pub isStray : Endpoint → ℕ → Fields → Bool
+isStray e t f =
+    is (f .command) K.RefreshGo && not (isMeasuring e t && Bool·beq (f .sequence) (sequenceOf e))
+
+abbrev pub requestFaults : Endpoint → ℕ → Fields → List ℕ → Faults
+requestFaults e t f body =
     setupFaults (not (isTurn e (f .command)))
     (lacksSession e f)
     (lacksRecord (f .command) body)
     (not (isWidth (e .settings) (f .command) (length body)))
-    (not (isAbove (e .timestamps .accepted) (f .timestamp)))
+    (not (isAbove (e .timestamps .accepted) (f .timestamp)) || isStray e t f)
     (not (isExpected (e .settings) (f .command) body))
 
 -- the reply, with Error 1 and never Busy where the contents differ; S-Disconnect has none
@@ -95,10 +100,10 @@ repliedOf e f body a =
 
 abbrev pub takeRequest : Endpoint → ℕ → Fields → List ℕ → Outcome
 takeRequest e t f body =
-    let a = firstOf (requestFaults e f body) in
+    let a = firstOf (requestFaults e t f body) in
     outcome a (leftBy a e (endedBy e (f .timestamp)) (takenOf e t f (moreFollows body))) (repliedOf e f body a)
 
--- ---- a reply at a master: to its pending request
+-- ---- a reply at a master: to its pending request, of setup or of a measurement
 -- the result of a queued command or the station's error record, which is not compared with its request and goes to the
 -- output
 abbrev pub isResult : Fields → Bool
@@ -113,19 +118,31 @@ lacksNumber e f =
 abbrev pub repliesRecord : Command → Bool
 repliesRecord k = is k K.ReadErrorInfo || is k K.WriteErrorInfo
 
-abbrev pub replyFaults : Endpoint → Fields → List ℕ → Faults
-replyFaults e f body =
+-- the state takes it: in setup the pending request's, in Refresh a measurement's
+abbrev pub isReplyTurn : Endpoint → Command → Bool
+isReplyTurn e k =
+    cond (isState (e .state) Refresh) (isJoined k)
+    (isSetup (e .state) && (isPending (e .setup .pending) && is k (requestDue e)))
+
+-- it is of the measurement under way, of its last step and in time
+abbrev pub isAwaited : Endpoint → ℕ → Fields → Bool
+isAwaited e t f =
+    Bool·beq (f .sequence) (sequenceOf e)
+    && (not (isState (e .state) Refresh) || (is (f .command) (awaitedIn e) && not (isLate e t)))
+
+abbrev pub replyFaults : Endpoint → ℕ → Fields → List ℕ → Faults
+replyFaults e t f body =
     setupFaults
-    (not (isSetup (e .state) && (f .ack && (isPending (e .setup .pending) && is (f .command) (requestDue e)))))
+    (not (f .ack && isReplyTurn e (f .command)))
     (lacksNumber e f)
     (repliesRecord (f .command) && not (isRecord body))
     (not (is (f .command) K.ReadErrorInfo || eqb (length body) (length (dueData e))))
-    (not (answersTo (e .setup .pending) (f .timestamp)))
+    (not (answersTo (e .setup .pending) (f .timestamp) && isAwaited e t f))
     (f .error || not (isResult f || same body (dueData e)))
 
 abbrev pub takeReply : Endpoint → ℕ → Fields → List ℕ → Outcome
 takeReply e t f body =
-    let a = firstOf (replyFaults e f body) in
+    let a = firstOf (replyFaults e t f body) in
     outcome a (leftBy a e (endedOf e) (heardOf e t f)) (cond (isDone a && isResult f) (W.value body) nothing)
 
 -- ---- a frame of this connection: one's own reflected first (number 10), then by its command and the role

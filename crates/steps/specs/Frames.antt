@@ -10,12 +10,13 @@ use Rattle.frame.specs.declared.Subconnection.{Subconnection}
 use Rattle.frame.specs.declared.Subconnection.the-variants.{Absent}
 use Rattle.frame.specs.declared.Fields.{Fields}
 use Rattle.words.specs.Words.{wordBytes}
-use Rattle.frame.specs.Control.{is, narrowed}
+use Rattle.frame.specs.Control.{is, isJoined, narrowed}
 use Rattle.frame.specs.Writing.{frameBytes}
 use Rattle.endpoint.specs.declared.Settings.{Settings}
 use Rattle.endpoint.specs.Endpoint.{Endpoint, Words}
 use Rattle.endpoint.specs.Due.{requestDue, isHeldBack}
 use Rattle.endpoint.specs.Time.{span, timeOf}
+use Rattle.transitions.specs.ByCall.{measurementAfter}
 
 -- what a call writes: a frame for the bus, or bytes for its user
 pub data Written : Type 0 where
@@ -33,7 +34,7 @@ abbrev pub wordsBytes : List ℕ → List ℕ
 wordsBytes [] = []
 wordsBytes (w ∷ ws) = wordBytes w ++ wordsBytes ws
 
--- the words that a setup request carries, and that the slave compares; S-Disconnect's zero word is not looked at, and
+-- the words that a request carries, in setup or of a measurement, and that the slave compares; S-Disconnect's zero word is not looked at, and
 -- those of S-InvokeFunc and S-WriteErrorInfo are its user's (dataOf)
 abbrev pub setupWords : Settings → Command → List ℕ
 setupWords s K.Connect = 1 ∷ []
@@ -43,6 +44,7 @@ setupWords s K.InvokeFunc = 0 ∷ []
 setupWords s K.ReadErrorInfo = 0 ∷ []
 setupWords s K.WriteErrorInfo = 0 ∷ []
 setupWords s K.RefreshReady = 0 ∷ []
+setupWords s K.RefreshMo = 0 ∷ []
 setupWords s K.RefreshGo = 0 ∷ []
 setupWords s K.Refresh = 0 ∷ []
 setupWords s K.Disconnect = 0 ∷ []
@@ -106,13 +108,13 @@ abbrev pub sessionWith : Endpoint → Command → Subconnection
 sessionWith e k = cond (is k K.Connect) Absent (sessionOf e)
 
 -- a frame that is no reply: a request, S-Refresh or S-Disconnect; Application tells the direction
-abbrev pub sentFields : Command → Bool → Subconnection → ℕ → ℕ → ℕ → Fields
-sentFields k application session connection timestamp baseline = record {
+abbrev pub sentFields : Command → Bool → Bool → Subconnection → ℕ → ℕ → ℕ → Fields
+sentFields k sequence application session connection timestamp baseline = record {
   command = k;
   ack = false;
   busy = false;
   error = false;
-  sequence = false;
+  sequence = sequence;
   application = application;
   subconnection = session;
   connection = connection;
@@ -121,13 +123,13 @@ sentFields k application session connection timestamp baseline = record {
 }
 
 -- a slave's reply
-abbrev pub ackFields : Command → Bool → Bool → Subconnection → ℕ → ℕ → Fields
-ackFields k busy error session connection timestamp = record {
+abbrev pub ackFields : Command → Bool → Bool → Bool → Subconnection → ℕ → ℕ → Fields
+ackFields k busy error sequence session connection timestamp = record {
   command = k;
   ack = true;
   busy = busy;
   error = error;
-  sequence = false;
+  sequence = sequence;
   application = true;
   subconnection = session;
   connection = connection;
@@ -142,22 +144,29 @@ baselineOf k t measured = cond (is k K.RefreshGo) ((t - measured) % 65536) 0
 -- a master's setup request
 abbrev pub requestFields : Endpoint → ℕ → Fields
 requestFields e t =
-    sentFields (requestDue e) false (sessionWith e (requestDue e)) (e .settings .connection) (timeOf e t)
+    sentFields (requestDue e) false false (sessionWith e (requestDue e)) (e .settings .connection) (timeOf e t)
     (baselineOf (requestDue e) t (e .setup .measured))
+
+-- a master's S-RefreshMO or S-RefreshGO in Refresh
+abbrev pub measurementFields : Endpoint → Command → ℕ → Fields
+measurementFields e k t =
+    sentFields k (measurementAfter k t (e .measurement) .sequence) false (sessionOf e) (e .settings .connection)
+    (timeOf e t) (baselineOf k t (e .setup .measured))
 
 -- S-Refresh, of either end
 abbrev pub refreshFields : Endpoint → ℕ → Fields
 refreshFields e t =
-    sentFields K.Refresh (e .settings .slave) (sessionOf e) (e .settings .connection) (timeOf e t) 0
+    sentFields K.Refresh false (e .settings .slave) (sessionOf e) (e .settings .connection) (timeOf e t) 0
 
 -- a master's S-Disconnect
 abbrev pub disconnectFields : Endpoint → ℕ → Fields
-disconnectFields e t = sentFields K.Disconnect false (sessionOf e) (e .settings .connection) (timeOf e t) 0
+disconnectFields e t = sentFields K.Disconnect false false (sessionOf e) (e .settings .connection) (timeOf e t) 0
 
--- the reply to a request: its Cmd and timestamp (of 48 bits)
+-- the reply to a request: its Cmd, its Offset op seq and its timestamp (of 48 bits)
 abbrev pub replyFields : Endpoint → Fields → Bool → Bool → Fields
 replyFields e f busy error =
-    ackFields (f .command) busy error (sessionOf e) (e .settings .connection) (f .timestamp % span)
+    ackFields (f .command) busy error (isJoined (f .command) && f .sequence) (sessionOf e) (e .settings .connection)
+    (f .timestamp % span)
 
 -- a station's result is set, and of a request's length
 abbrev pub hasResult : Endpoint → ℕ → Bool
@@ -181,6 +190,6 @@ replyData e k done body =
     cond (isPerformed e k (length body)) (handedOver (e .words))
     (cond (is k K.ReadErrorInfo && done) (recordIn (e .errorinfo)) body)
 
--- a setup request: no reply, and neither S-Refresh nor S-Disconnect
+-- a request: no reply, and neither S-Refresh nor S-Disconnect; a setup request where its writer is in setup
 abbrev pub isRequest : Fields → Bool
 isRequest f = not (f .ack) && not (is (f .command) K.Refresh || is (f .command) K.Disconnect)

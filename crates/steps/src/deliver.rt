@@ -9,7 +9,8 @@ ghost use Rattle.frame.specs.declared.Command.the-variants as K;
 ghost use Rattle.frame.specs.Control.{is};
 ghost use Rattle.endpoint.specs.Answers.{firstOf};
 ghost use Rattle.steps.specs.Deliveries.{isForeign, refreshFaultsAt, takeRefresh, isTurn, lacksSession, lacksRecord};
-ghost use Rattle.steps.specs.Deliveries.{isWidth, isUsers, isExpected, requestFaults, takeRequest, isResult};
+ghost use Rattle.steps.specs.Deliveries.{isWidth, isUsers, isExpected, isStray, requestFaults, takeRequest};
+ghost use Rattle.steps.specs.Deliveries.{isResult, isReplyTurn, isAwaited};
 ghost use Rattle.steps.specs.Deliveries.{lacksNumber, repliesRecord, replyFaults, takeReply, deliverOf};
 ghost use Rattle.steps.specs.Says.{plainStep, withRoom, StepSays};
 ghost use Rattle.steps.specs.Values.{withHanded};
@@ -38,8 +39,12 @@ use endpoint::answers::is_ended;
 use endpoint::answers::setup_faults;
 use endpoint::answers::value_faults;
 use endpoint::due::answers_to;
+use endpoint::due::awaited_in;
+use endpoint::due::is_late;
+use endpoint::due::is_measuring;
 use endpoint::due::is_pending;
 use endpoint::due::request_due;
+use endpoint::due::sequence_of;
 use endpoint::table::is_no;
 use endpoint::table::is_setup;
 use endpoint::table::is_state;
@@ -58,6 +63,7 @@ use frame::LONGEST_FRAME;
 use frame::Subconnection;
 use frame::control::is;
 use frame::control::is_absent;
+use frame::control::is_joined;
 use frame::control::is_same;
 use frame::write::head_of;
 use frame::write::is_body_length;
@@ -155,8 +161,17 @@ fn is_expected(s: Settings, k: Command, body: &[u8]) -> bool
     is(k, Command::Disconnect) | (is_users(k) | is_data(body, setup_data(s, k)))
 }
 
-fn request_answer(e: Core, f: Fields, body: &[u8]) -> Answer
-    ensures { λ r. ⌜ r ≡ firstOf (requestFaults (bare e) f (now (body .entry))) ⌝ }
+// Whether it is an S-RefreshGO of another measurement than the one under way, or of none.
+fn is_stray(e: Core, clock: u64, f: Fields) -> bool
+    ensures { λ r. ⌜ r ≡ isStray (bare e) clock f ⌝ }
+{
+    let k = f.command;
+    let same = f.sequence == sequence_of(e);
+    is(k, Command::RefreshGo) & !(is_measuring(e, clock) & same)
+}
+
+fn request_answer(e: Core, clock: u64, f: Fields, body: &[u8]) -> Answer
+    ensures { λ r. ⌜ r ≡ firstOf (requestFaults (bare e) clock f (now (body .entry))) ⌝ }
 {
     let settings = e.settings;
     let timestamps = e.timestamps;
@@ -166,9 +181,10 @@ fn request_answer(e: Core, f: Fields, body: &[u8]) -> Answer
     let foreign = lacks_session(e, f);
     let lacks = lacks_record(k, body);
     let above = is_above(last, f.timestamp);
+    let stray = is_stray(e, clock, f);
     let fits = is_width(settings, k, body.len());
     let expected = is_expected(settings, k, body);
-    first_of(setup_faults(!turn, foreign, lacks, !fits, !above, !expected))
+    first_of(setup_faults(!turn, foreign, lacks, !fits, !above | stray, !expected))
 }
 
 // What a request that is answered leaves: done, or ended. More: it has an error record, and more follow.
@@ -196,7 +212,7 @@ fn take_request(
         (takeRequest (withHanded (now (words .entry)) (now (errorinfo .entry)) (bare e)) clock f (now (body .entry)))
         (now (out .entry)) (now (out .exit)) r ⌝ }
 {
-    let answer = request_answer(e, f, body);
+    let answer = request_answer(e, clock, f, body);
     if is_dropped(answer) {
         return stepped(answer, e, 0);
     }
@@ -238,18 +254,47 @@ fn replies_record(k: Command) -> bool
     is(k, Command::ReadErrorInfo) | is(k, Command::WriteErrorInfo)
 }
 
-fn reply_answer(e: Core, words: &[u8], errorinfo: &[u8], f: Fields, body: &[u8]) -> Answer
-    ensures { λ r. ⌜ r ≡ firstOf
-        (replyFaults (withHanded (now (words .entry)) (now (errorinfo .entry)) (bare e)) f (now (body .entry))) ⌝ }
+// Whether the state takes a reply: in setup the pending request's, in Refresh a measurement's.
+fn is_reply_turn(e: Core, k: Command) -> bool
+    ensures { λ r. ⌜ r ≡ isReplyTurn (bare e) k ⌝ }
 {
     let state = e.state;
+    if is_state(state, State::Refresh) {
+        return is_joined(k);
+    }
+    let setup = e.setup;
+    let pending = setup.pending;
+    is_setup(state) & (is_pending(pending) & is(k, request_due(e)))
+}
+
+// Whether a reply is of the measurement under way, of its last step and in time.
+fn is_awaited(e: Core, clock: u64, f: Fields) -> bool
+    ensures { λ r. ⌜ r ≡ isAwaited (bare e) clock f ⌝ }
+{
+    let k = f.command;
+    let state = e.state;
+    let same = f.sequence == sequence_of(e);
+    let late = is_late(e, clock);
+    same & (!is_state(state, State::Refresh) | (is(k, awaited_in(e)) & !late))
+}
+
+fn reply_answer(
+    e: Core,
+    words: &[u8],
+    errorinfo: &[u8],
+    clock: u64,
+    f: Fields,
+    body: &[u8],
+) -> Answer
+    ensures { λ r. ⌜ r ≡ firstOf
+        (replyFaults (withHanded (now (words .entry)) (now (errorinfo .entry)) (bare e)) clock f (now (body .entry))) ⌝ }
+{
     let setup = e.setup;
     let pending = setup.pending;
     let k = f.command;
-    let in_setup = is_setup(state);
-    let asked = is_pending(pending);
-    let matches = is(k, request_due(e));
+    let turn = is_reply_turn(e, k);
     let answers = answers_to(pending, f.timestamp);
+    let awaited = is_awaited(e, clock, f);
     let result = is_result(f);
     let read = is(k, Command::ReadErrorInfo);
     let foreign = lacks_number(e, f);
@@ -259,11 +304,11 @@ fn reply_answer(e: Core, words: &[u8], errorinfo: &[u8], f: Fields, body: &[u8])
     let n = due.length;
     let equal = is_data(body, due);
     first_of(setup_faults(
-        !(in_setup & (f.ack & (asked & matches))),
+        !(f.ack & turn),
         foreign,
         lacks,
         !(read | (body.len() == n)),
-        !answers,
+        !(answers & awaited),
         f.error | !(result | equal),
     ))
 }
@@ -283,7 +328,7 @@ fn take_reply(
         (takeReply (withHanded (now (words .entry)) (now (errorinfo .entry)) (bare e)) clock f (now (body .entry)))
         (now (out .entry)) (now (out .exit)) r ⌝ }
 {
-    let answer = reply_answer(e, words, errorinfo, f, body);
+    let answer = reply_answer(e, words, errorinfo, clock, f, body);
     if !is_done(answer) {
         return refused(answer, e);
     }

@@ -15,21 +15,24 @@ ghost use Rattle.steps.specs.Frames.{isPerformed, isBusy, hasRecord, rep
 ghost use Rattle.steps.specs.Says.{bytesIn, DataSays};
 ghost use Rattle.steps.specs.Values.{withHanded};
 ghost use Rattle.frame.specs.Writing.{HeadSays};
+ghost use Rattle.transitions.specs.ByCall.{measurementAfter};
 use super::Body;
 use super::queue::padded;
 use endpoint::Core;
 use endpoint::Settings;
 use endpoint::due::is_held_back;
+use endpoint::due::passed;
 use endpoint::due::request_due;
-use endpoint::time::passed;
 use frame::Command;
 use frame::Fields;
 use frame::Head;
 use frame::Subconnection;
 use frame::TIMESTAMP_MODULUS;
 use frame::control::is;
+use frame::control::is_joined;
 use frame::control::narrowed;
 use frame::write::write_head;
+use transitions::by_call::measurement_after;
 use words::put_word;
 use words::same;
 
@@ -74,6 +77,7 @@ pub(crate) fn setup_data(s: Settings, k: Command) -> Body
         Command::ReadErrorInfo => one_word(0),
         Command::WriteErrorInfo => one_word(0),
         Command::RefreshReady => one_word(0),
+        Command::RefreshMo => one_word(0),
         Command::RefreshGo => one_word(0),
         Command::Refresh => one_word(0),
         Command::Disconnect => one_word(0),
@@ -136,20 +140,21 @@ fn session_with(e: Core, k: Command) -> Subconnection
 // A frame that is no reply; application tells the direction.
 pub(crate) fn sent_fields(
     command: Command,
+    sequence: bool,
     application: bool,
     session: Subconnection,
     connection: u32,
     timestamp: u64,
     baseline: u16,
 ) -> Fields
-    ensures { λ r. ⌜ r ≡ sentFields command application session connection timestamp baseline ⌝ }
+    ensures { λ r. ⌜ r ≡ sentFields command sequence application session connection timestamp baseline ⌝ }
 {
     Fields {
         command: command,
         ack: false,
         busy: false,
         error: false,
-        sequence: false,
+        sequence: sequence,
         application: application,
         subconnection: session,
         connection: connection,
@@ -170,14 +175,33 @@ fn baseline_of(k: Command, clock: u64, measured: u64) -> u16
 
 // The request due, with this timestamp.
 pub(crate) fn request_fields(e: Core, clock: u64, stamp: u64) -> Fields
-    ensures { λ r. ⌜ r ≡ sentFields (requestDue (bare e)) false (sessionWith (bare e) (requestDue (bare e)))
+    ensures { λ r. ⌜ r ≡ sentFields (requestDue (bare e)) false false (sessionWith (bare e) (requestDue (bare e)))
         (e .settings .connection) stamp (baselineOf (requestDue (bare e)) clock (e .setup .measured)) ⌝ }
 {
     let k = request_due(e);
     sent_fields(
         k,
         false,
+        false,
         session_with(e, k),
+        e.settings.connection,
+        stamp,
+        baseline_of(k, clock, e.setup.measured),
+    )
+}
+
+// S-RefreshMO or S-RefreshGO in Refresh, with this timestamp and the measurement that it leaves.
+pub(crate) fn measurement_fields(e: Core, k: Command, clock: u64, stamp: u64) -> Fields
+    ensures { λ r. ⌜ r ≡ sentFields k (measurementAfter k clock (e .measurement) .sequence) false (sessionOf (bare e))
+        (e .settings .connection) stamp (baselineOf k clock (e .setup .measured)) ⌝ }
+{
+    let last = e.measurement;
+    let measurement = measurement_after(k, clock, last);
+    sent_fields(
+        k,
+        measurement.sequence,
+        false,
+        session_of(e),
         e.settings.connection,
         stamp,
         baseline_of(k, clock, e.setup.measured),
@@ -193,7 +217,7 @@ pub(crate) fn reply_fields(e: Core, f: Fields, busy: bool, error: bool) -> Field
         ack: true,
         busy: busy,
         error: error,
-        sequence: false,
+        sequence: is_joined(k) & f.sequence,
         application: true,
         subconnection: session_of(e),
         connection: e.settings.connection,

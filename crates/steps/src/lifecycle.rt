@@ -105,6 +105,7 @@ pub fn stop(e: Core, clock: u64, out: &mut [u8]) -> Stepped
     let fields = sent_fields(
         Command::Disconnect,
         false,
+        false,
         session,
         e.settings.connection,
         stamp,

@@ -1,4 +1,4 @@
--- A bound on ages is below 2^34: its three parts have 32 bits.
+-- A bound on ages is below 2^34: three of its parts have 32 bits, the fourth is 10.
 use mathlib.Core.Bool.{Bool, true, false, cond}
 use mathlib.Core.List.{List}
 use Prim.Native.Nat.{ℕ, _+_, _^_, _<_}
@@ -12,7 +12,7 @@ use Rattle.endpoint.specs.Time.{boundOf}
 use Rattle.endpoint.proofs.Settings as S
 use Rattle.endpoint.proofs.Settings.Laws as S′
 
-sum-below : (slave : Bool) (i r a : ℕ) → i < 2 ^ 32 → r < 2 ^ 32 → a < 2 ^ 32 → a + (i + cond slave 0 r) < 2 ^ 34
+sum-below : (slave : Bool) (i r a : ℕ) → i < 2 ^ 32 → r < 2 ^ 32 → a < 2 ^ 32 → a + (i + (cond slave 0 r + 10)) < 2 ^ 34
 sum-below true i r a h k l = omega arith
 sum-below false i r a h k l = omega arith
 

@@ -1,5 +1,5 @@
 -- What a user's call that is done leaves.
-use mathlib.Core.Bool.{Bool, true, false, _||_, cond}
+use mathlib.Core.Bool.{Bool, true, false, _||_, not, cond}
 use Prim.Native.Nat.{ℕ, _+_, _%_}
 use Rattle.frame.specs.declared.Command.{Command}
 use Rattle.frame.specs.declared.Command.the-variants as K
@@ -11,12 +11,14 @@ use Rattle.endpoint.specs.declared.State.the-variants.{Close, Starting}
 use Rattle.endpoint.specs.declared.Timestamp.the-variants.{Never}
 use Rattle.endpoint.specs.declared.Pending.the-variants.{Nothing, Asked}
 use Rattle.endpoint.specs.declared.Queue.{Queue}
+use Rattle.endpoint.specs.declared.Measurement.{Measurement}
 use Rattle.endpoint.specs.declared.Queue.the-variants as Q
 use Rattle.endpoint.specs.Endpoint.{Endpoint, Words, noBytes, noRecord, wordsOf}
 use Rattle.endpoint.specs.Due.{requestDue}
 use Rattle.endpoint.specs.Time.{noValue, endedOf, timeOf}
 use Rattle.endpoint.specs.Updates.{endpointOf, inState, timedFrom, withTimestamps, withSent, withPending, withRequests}
-use Rattle.endpoint.specs.Updates.{withSession, withQueue, withInvoked, withWords, withErrorInfo, holding}
+use Rattle.endpoint.specs.Updates.{withSession, withQueue, withInvoked, measurementOf, withMeasurement, withWords}
+use Rattle.endpoint.specs.Updates.{withErrorInfo, holding}
 
 -- the session number after a loading or a restart: a slave's user gives it; a master has none until the S-Connect reply
 abbrev pub sessionFrom : Bool → ℕ → Subconnection
@@ -27,7 +29,7 @@ abbrev pub freshOf : Settings → ℕ → Endpoint
 freshOf s number =
     endpointOf s Close (sessionFrom (s .slave) number) 0 (record { sent = Never; accepted = Never })
     (record { pending = Nothing; measured = 0; offset = 0; requests = 0; queue = Q.Empty; invoked = false })
-    (record { notready = false }) (wordsOf 0 noBytes) (wordsOf 0 noRecord) noValue
+    (measurementOf false false 0) (record { notready = false }) (wordsOf 0 noBytes) (wordsOf 0 noRecord) noValue
 
 -- start; the count of requests begins anew, and the queue
 abbrev pub startedOf : Endpoint → ℕ → Endpoint
@@ -65,6 +67,19 @@ requestedOf e t = requestedAt e t (timeOf e t)
 -- send: S-Refresh
 abbrev pub refreshSentOf : Endpoint → ℕ → Endpoint
 refreshSentOf e t = withSent (timeOf e t) e
+
+-- S-RefreshMO begins a measurement, with the other Offset op seq; S-RefreshGO goes on with it
+abbrev pub measurementAfter : Command → ℕ → Measurement → Measurement
+measurementAfter k t m = cond (is k K.RefreshMo) (measurementOf false (not (m .sequence)) t) m
+
+-- send: one of the two, with this timestamp; its reply is awaited
+abbrev pub measurementSentAt : Endpoint → Command → ℕ → ℕ → Endpoint
+measurementSentAt e k t stamp =
+    withSent stamp (withPending (Asked stamp) (withMeasurement (measurementAfter k t (e .measurement)) e))
+
+-- the same, with the endpoint's time
+abbrev pub measurementSentOf : Endpoint → Command → ℕ → Endpoint
+measurementSentOf e k t = measurementSentAt e k t (timeOf e t)
 
 -- stop; a master's has sent S-Disconnect with this timestamp
 abbrev pub stoppedAt : Endpoint → ℕ → Endpoint

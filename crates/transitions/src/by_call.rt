@@ -3,8 +3,10 @@ ghost use mathlib.Core.Path.{_≡_};
 ghost use Rattle.endpoint.specs.Endpoint.{noBytes, noRecord, wordsOf, bare, coreOf};
 ghost use Rattle.endpoint.specs.Updates.{withWords, withErrorInfo, withNotReady};
 ghost use Rattle.transitions.specs.ByCall.{sessionFrom, freshOf, startedOf, restartedOf, countedOf, queueAfter, invokedAfter};
-ghost use Rattle.transitions.specs.ByCall.{requestedAt, stoppedAt, invokedOf, readQueuedOf, writeQueuedOf};
+ghost use Rattle.transitions.specs.ByCall.{requestedAt, measurementAfter, measurementSentAt, stoppedAt, invokedOf};
+ghost use Rattle.transitions.specs.ByCall.{readQueuedOf, writeQueuedOf};
 use endpoint::Core;
+use endpoint::Measurement;
 use endpoint::Pending;
 use endpoint::Queue;
 use endpoint::Settings;
@@ -54,6 +56,11 @@ pub fn fresh(s: Settings, number: u16) -> Core
             requests: 0,
             queue: Queue::Empty,
             invoked: false,
+        },
+        measurement: Measurement {
+            answered: false,
+            sequence: false,
+            reference: 0,
         },
         station: Station { notready: false },
         words: 0,
@@ -127,6 +134,30 @@ pub fn requested(e: Core, clock: u64, stamp: u64) -> Core
     next.since = clock;
     next.setup.requests = requests;
     next.setup.invoked = invoked;
+    next
+}
+
+// S-RefreshMO begins a measurement, with the other Offset op seq; S-RefreshGO goes on with it.
+pub fn measurement_after(k: Command, clock: u64, m: Measurement) -> Measurement
+    ensures { λ r. ⌜ r ≡ measurementAfter k clock m ⌝ }
+{
+    if is(k, Command::RefreshMo) {
+        return Measurement {
+            answered: false,
+            sequence: !m.sequence,
+            reference: clock,
+        };
+    }
+    m
+}
+
+// S-RefreshMO or S-RefreshGO has been sent in Refresh, with this timestamp.
+pub fn measurement_sent(e: Core, k: Command, clock: u64, stamp: u64) -> Core
+    ensures { λ r. ⌜ r ≡ coreOf (measurementSentAt (bare e) k clock stamp) ⌝ }
+{
+    let measurement = e.measurement;
+    let mut next = with_sent(stamp, with_pending(Pending::Asked(stamp), e));
+    next.measurement = measurement_after(k, clock, measurement);
     next
 }
 

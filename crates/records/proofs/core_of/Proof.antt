@@ -5,14 +5,14 @@ use Rattle.records.proofs.core_of.Tie as tie
 
 returns : tie.Need-returns
 returns c =
+    let d = c .before .before .before .before .before in
     rw (
-      c .before .before .before .queue-from .ensures,
-      c .before .before .before .before .pending-from .ensures,
-      c .before .before .before .before .before .before .timestamp-from2 .ensures,
-      c .before .before .before .before .before .before .before .before .timestamp-from .ensures,
-      c .before .before .before .before .before .before .before .before .before .before .subconnection-of .ensures,
-      c .before .before .before .before .before .before .before .before .before .before .before .before .state-from
-          .ensures,
+      d .queue-from .ensures,
+      d .before .pending-from .ensures,
+      d .before .before .before .timestamp-from2 .ensures,
+      d .before .before .before .before .before .timestamp-from .ensures,
+      d .before .before .before .before .before .before .before .subconnection-of .ensures,
+      d .before .before .before .before .before .before .before .before .before .state-from .ensures,
     )
 
 pub core-of-spec : {M : Type 1} → statement M

@@ -8,7 +8,10 @@ use Rattle.records.proofs.stored_of.Tie as tie
 
 returns : tie.Need-returns
 returns c =
-    let lacks = c .before in
+    let sequence = c in
+    let answered = c .before in
+    let hassession = answered .before in
+    let lacks = hassession .before in
     let session = lacks .before in
     let taken = session .before in
     let notready = taken .before in
@@ -29,7 +32,7 @@ returns c =
     let hasasked-is = hasasked .flag-of4 .ensures ∙ ap flagOf (asks .is-asked .ensures) in
     let hasaccepted-is = hasaccepted .flag-of3 .ensures ∙ ap flagOf (accepts .is-at2 .ensures) in
     let hassent-is = hassent .flag-of2 .ensures ∙ ap flagOf (sends .is-at .ensures) in
-    let hassession-is = c .flag-of8 .ensures ∙ ap flagOf (ap not (lacks .is-absent .ensures)) in
+    let hassession-is = hassession .flag-of8 .ensures ∙ ap flagOf (ap not (lacks .is-absent .ensures)) in
     λ i. record {
       since = e .since;
       sent = sent .time-in .ensures i;
@@ -59,12 +62,17 @@ returns c =
       valueage = e .valueage;
       session = session .session-in .ensures i;
       hassession = hassession-is i;
+      answered = answered .flag-of9 .ensures i;
+      sequence = sequence .flag-of10 .ensures i;
+      reference = e .measurement .reference;
     }
 
 pub stored-of-spec : {M : Type 1} → statement M
 stored-of-spec =
     tie.close
     (tie.spec
+    (λ c κs. search needs)
+    (λ c κs. search needs)
     (λ c κs. search needs)
     (λ c κs. search needs)
     (λ c κs. search needs)

@@ -11,6 +11,7 @@ bound-spec =
     (λ c. search needs)
     (λ c. search needs)
     (λ c. search needs)
+    (λ c. search needs)
     (λ c. rw (c .if1 .taken) (omega arith))
     (λ c. search needs)
     (λ c. search needs)

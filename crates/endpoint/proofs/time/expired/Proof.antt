@@ -9,4 +9,5 @@ expired-spec =
     (tie.spec
     (λ c κs. search needs)
     (λ c κs. search needs)
-    (λ c. rw (c .is-over .ensures, c .before .passed .ensures)))
+    (λ c κs. search needs)
+    (λ c. rw (c .is-outdated .ensures, c .before .is-over .ensures, c .before .before .passed .ensures)))

@@ -4,9 +4,10 @@ use borrow.Author.Tests.{ne-eqb}
 use Rattle.frame.proofs.control.command_of.Statement.{statement}
 use Rattle.frame.proofs.control.command_of.Tie as tie
 
-unlisted : tie.Need-returns-10
+unlisted : tie.Need-returns-11
 unlisted c =
-    let c8 = c .before in
+    let c9 = c .before in
+    let c8 = c9 .before in
     let c7 = c8 .before in
     let c6 = c7 .before in
     let c5 = c6 .before in
@@ -22,7 +23,8 @@ unlisted c =
       ne-eqb _ _ (c6 .if6 .left),
       ne-eqb _ _ (c7 .if7 .left),
       ne-eqb _ _ (c8 .if8 .left),
-      ne-eqb _ _ (c .if9 .left),
+      ne-eqb _ _ (c9 .if9 .left),
+      ne-eqb _ _ (c .if10 .left),
     )
 
 pub command-of-spec : {M : Type 1} → statement M
@@ -38,4 +40,5 @@ command-of-spec =
     (λ c. rw (c .if7 .taken))
     (λ c. rw (c .if8 .taken))
     (λ c. rw (c .if9 .taken))
+    (λ c. rw (c .if10 .taken))
     unlisted)

@@ -6,11 +6,13 @@ use Rattle.frame.proofs.control.has_form.Tie as tie
 returns : tie.Need-returns
 unfolding hasForm
 returns c =
-    let absent = c .before .before in
-    let may = absent .before .before .before .before .before .before .before .before .before in
+    let absent = c .before in
+    let joined = absent .before .before .before .before .before .before .before .before .before .before in
+    let may = joined .before in
     let connect = may .before in
     rw (
       absent .is-absent .ensures,
+      joined .is-joined .ensures,
       may .may-be-busy .ensures,
       connect .is4 .ensures,
       connect .before .is3 .ensures,
@@ -21,4 +23,4 @@ returns c =
 pub has-form-spec : {M : Type 1} → statement M
 has-form-spec =
     tie.close
-    (tie.spec (λ c κs. tt) (λ c κs. tt) (λ c κs. tt) (λ c κs. tt) (λ c κs. tt) (λ c κs. tt) returns)
+    (tie.spec (λ c κs. tt) (λ c κs. tt) (λ c κs. tt) (λ c κs. tt) (λ c κs. tt) (λ c κs. tt) (λ c κs. tt) returns)

@@ -10,8 +10,7 @@ returns c =
     let r = d .before .before in
     let n = r .before in
     let s = n .before .before in
-    let k = s .before .before in
-    let p = k .before .before in
+    let w = s .before in
     rw (
       c .first-of .ensures,
       c .before .setup-faults .ensures,
@@ -21,21 +20,17 @@ returns c =
       d .before .is-record .ensures,
       r .replies-record .ensures,
       n .lacks-number .ensures,
-      n .before .is2 .ensures,
+      n .before .is .ensures,
       s .is-result .ensures,
-      s .before .answers-to .ensures,
-      k .is .ensures,
-      k .before .request-due .ensures,
-      p .is-pending .ensures,
-      p .before .is-setup .ensures,
+      w .is-awaited .ensures,
+      w .before .answers-to .ensures,
+      w .before .before .is-reply-turn .ensures,
     )
 
 pub reply-answer-spec : {M : Type 1} → statement M
 reply-answer-spec =
     tie.close
     (tie.spec
-    (λ c κs. search needs)
-    (λ c κs. search needs)
     (λ c κs. search needs)
     (λ c κs. search needs)
     (λ c κs. search needs)

@@ -54,7 +54,7 @@ copy-requires c κs =
     let a = t .args in
     let e = withHanded (a .words .now) (a .errorinfo .now) (bare (a .e)) in
     let h = is-done (s .reply-answer .result) (sym (d .is-done .ensures) ∙ not-false (d .is-done .result) (i .if1 .left)) in
-    let l = reply-le e (a .f) (a .body .now) (sym (s .reply-answer .ensures) ∙ h) in
+    let l = reply-le e (a .clock) (a .f) (a .body .now) (sym (s .reply-answer .ensures) ∙ h) in
     let m = t .pre in
     omega arith
 

@@ -28,7 +28,7 @@ use Rattle.steps.proofs.deliver.take_request.Statement.{statement}
 use Rattle.steps.proofs.deliver.take_request.Tie as tie
 
 -- what a request with this answer comes to
-module _ (e : Endpoint) (t : ℕ) (f : Fields) (body : List ℕ) (a : Answer) (q : a ≡ firstOf (requestFaults e f body)) where
+module _ (e : Endpoint) (t : ℕ) (f : Fields) (body : List ℕ) (a : Answer) (q : a ≡ firstOf (requestFaults e t f body)) where
   abbrev ends : Endpoint
   ends = endedBy e (f .timestamp)
 
@@ -120,7 +120,7 @@ returns-3 c =
     let fields : f .reply-fields .result ≡ g =
     f .reply-fields .ensures
     ∙ (λ n. replyFields e (a .f) (d .is-done .ensures n && b .is-busy .ensures n) (f .before .is-ended .ensures n)) in
-    let n = request-width e (a .f) x (rw (← s .request-answer .ensures) kept) in
+    let n = request-width e (a .clock) (a .f) x (rw (← s .request-answer .ensures) kept) in
     loud-step (a .out .now) (takeRequest e (a .clock) (a .f) x) r next g y
     (answered-is e (a .clock) (a .f) x r (s .request-answer .ensures) false kept other)
     (whole g y (a .out .now) (t .pre .0)

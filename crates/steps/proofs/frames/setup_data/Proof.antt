@@ -66,6 +66,12 @@ returns-10 c =
     one-word (a .s) (a .k) 0 (rw (c .before .enum-told10 .given .1)) (c .one-word9 .ensures .0)
     (c .one-word9 .ensures .1)
 
+returns-11 : tie.Need-returns-11
+returns-11 c =
+    let a = c .before .before .before .args in
+    one-word (a .s) (a .k) 0 (rw (c .before .enum-told11 .given .1)) (c .one-word10 .ensures .0)
+    (c .one-word10 .ensures .1)
+
 pub setup-data-spec : {M : Type 1} → statement M
 setup-data-spec =
     tie.close
@@ -94,6 +100,8 @@ setup-data-spec =
     (λ c κs. search needs)
     (λ c. search needs)
     (λ c κs. search needs)
+    (λ c. search needs)
+    (λ c κs. search needs)
     returns
     returns-2
     returns-3
@@ -103,4 +111,5 @@ setup-data-spec =
     returns-7
     returns-8
     returns-9
-    returns-10)
+    returns-10
+    returns-11)

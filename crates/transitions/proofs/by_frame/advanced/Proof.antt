@@ -10,14 +10,16 @@ returns c =
       c .before .before .before .with-accepted .ensures,
       c .before .before .before .before .state-to .ensures,
       c .before .before .before .before .before .next-state .ensures,
-      c .before .before .before .before .before .before .offset-by .ensures,
-      c .before .before .before .before .before .before .before .measured-by .ensures,
+      c .before .before .before .before .before .before .measurement-by .ensures,
+      c .before .before .before .before .before .before .before .before .offset-by .ensures,
+      c .before .before .before .before .before .before .before .before .before .measured-by .ensures,
     )
 
 pub advanced-spec : {M : Type 1} → statement M
 advanced-spec =
     tie.close
     (tie.spec
+    (λ c κs. search needs)
     (λ c κs. search needs)
     (λ c κs. search needs)
     (λ c κs. search needs)

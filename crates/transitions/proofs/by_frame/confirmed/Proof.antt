@@ -14,14 +14,16 @@ returns c =
       by .session-by .ensures,
       by .before .state-to .ensures,
       next .next-state .ensures,
-      next .before .measured-by .ensures,
-      next .before .before .request-due .ensures,
+      next .before .measurement-by .ensures,
+      next .before .before .before .measured-by .ensures,
+      next .before .before .before .before .request-due .ensures,
     )
 
 pub confirmed-spec : {M : Type 1} → statement M
 confirmed-spec =
     tie.close
     (tie.spec
+    (λ c κs. search needs)
     (λ c κs. search needs)
     (λ c κs. search needs)
     (λ c κs. search needs)

@@ -8,13 +8,7 @@ heard-spec =
     tie.close
     (tie.spec
     (λ c κs. search needs)
-    (λ c. rw (c .due-again .ensures, c .before .if1 .taken))
     (λ c κs. search needs)
+    (λ c. rw (c .measurement-heard .ensures, ← c .before .before .is-state .ensures, c .before .if1 .taken))
     (λ c κs. search needs)
-    (λ c.
-    let d = c .before .before in
-    rw (c .performed .ensures, ← d .is-command-due .ensures, c .before .if2 .taken, d .before .if1 .left))
-    (λ c κs. search needs)
-    (λ c.
-    let d = c .before .before in
-    rw (c .confirmed .ensures, ← d .is-command-due .ensures, c .before .if2 .left, d .before .if1 .left)))
+    (λ c. rw (c .setup-heard .ensures, ← c .before .before .is-state .ensures, c .before .if1 .left)))

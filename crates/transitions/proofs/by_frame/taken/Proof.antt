@@ -22,12 +22,29 @@ taken-spec =
       c .before .if2 .taken,
     ))
     (λ c κs. search needs)
+    (λ c κs. search needs)
     (λ c.
-    let i = c .before .before in
+    let s = c .before .before in
+    let i = s .before .before in
+    rw (
+      c .synchronized .ensures,
+      ← i .before .before .is .ensures,
+      i .before .if1 .left,
+      ← i .is2 .ensures,
+      s .before .if2 .left,
+      ← s .is-state .ensures,
+      c .before .if3 .taken,
+    ))
+    (λ c κs. search needs)
+    (λ c.
+    let s = c .before .before in
+    let i = s .before .before in
     rw (
       c .answered .ensures,
       ← i .before .before .is .ensures,
       i .before .if1 .left,
       ← i .is2 .ensures,
-      c .before .if2 .left,
+      s .before .if2 .left,
+      ← s .is-state .ensures,
+      c .before .if3 .left,
     )))
