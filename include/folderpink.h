@@ -3,10 +3,10 @@
  * frame check alone.
  *
  * Link with libgateway.a (rt staticlib gateway), for folderpink_check_frame also with libframe.a
- * (rt staticlib frame). They need memcpy, and nothing else: no call at start-up, no heap, no
- * input or output. A call always returns and keeps nothing between calls: all that a gateway
- * remembers is in the records and in the struct folderpink_call that the caller holds. So two
- * gateways may be called at the same time from two threads.
+ * (rt staticlib frame). They need memcpy and memset, and nothing else: no call at start-up, no
+ * heap, no input or output. A call always returns and keeps nothing between calls: all that a
+ * gateway remembers is in the records and in the struct folderpink_call that the caller holds. So
+ * two gateways may be called at the same time from two threads.
  *
  * In every call, the caller sees to it that
  * - a pointer and the length after it are readable memory of so many elements (records, words or
@@ -415,8 +415,9 @@ struct folderpink_told folderpink_show(struct folderpink_call *call,
  * In Refresh a master also measures the clocks: its send writes S-RefreshMO 10,000 ticks or more
  * after the last one, or after entry into Refresh, and S-RefreshGO once that is answered, whatever
  * value is lent: out[0] is 0xFD or 0xFE then, and the value has not gone, so send it again. A step
- * that takes more than R ticks drops the measurement. A slave ends when its last one is over 30,000
- * ticks old: so a master has to send every some thousand ticks, and deliver what comes back.
+ * that takes more than R ticks drops the measurement. A slave ends 30,000 ticks after it answered
+ * the last S-RefreshReady or S-RefreshMO whose S-RefreshGO it took: so a master has to send every
+ * some thousand ticks, and deliver what comes back.
  */
 struct folderpink_told folderpink_send(struct folderpink_call *call,
                                        struct folderpink_record *records, size_t records_length,
