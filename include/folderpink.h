@@ -415,9 +415,9 @@ struct folderpink_told folderpink_show(struct folderpink_call *call,
  * In Refresh a master also measures the clocks: its send writes S-RefreshMO 10,000 ticks or more
  * after the last one, or after entry into Refresh, and S-RefreshGO once that is answered, whatever
  * value is lent: out[0] is 0xFD or 0xFE then, and the value has not gone, so send it again. A step
- * that takes more than R ticks drops the measurement. A slave ends 30,000 ticks after it answered
- * the last S-RefreshReady or S-RefreshMO whose S-RefreshGO it took: so a master has to send every
- * some thousand ticks, and deliver what comes back.
+ * that takes more than R ticks drops the measurement. A slave ends when it is over 30,000 ticks
+ * since it answered the last S-RefreshReady or S-RefreshMO whose S-RefreshGO it took: so a master
+ * has to send every some thousand ticks, and deliver what comes back.
  */
 struct folderpink_told folderpink_send(struct folderpink_call *call,
                                        struct folderpink_record *records, size_t records_length,
