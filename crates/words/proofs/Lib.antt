@@ -3,3 +3,4 @@ pub mod Parts
 pub mod Alike
 pub mod Words
 pub mod Put
+pub mod Search

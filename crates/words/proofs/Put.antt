@@ -1,5 +1,5 @@
 -- Runs of bytes put into an output one after the other are one run.
-use mathlib.Core.Path.{◌≡◌, refl, sym, ap, ap₂, ◌∙◌}
+use mathlib.Core.Path.{◌≡◌, sym, ap, ap₂, ◌∙◌}
 use mathlib.Core.List.{List, [], ◌∷◌, ◌++◌, append_assoc, append-nil}
 use Prim.Native.Nat.{ℕ, ◌+◌, ◌-◌, ◌≤◌, ◌<◌}
 use native.Mathlib.Nat.{add_assoc, zero-add, le_refl}
@@ -8,7 +8,7 @@ use native.Mathlib.Omega.{arith}
 use lib.ListN.{length, take, drop, set, length-append, length-drop, drop_of_length-le}
 use lib.Seq.{sets-eq, take-length, length-take-le, take_at, drop-drop, drop-append-add}
 use borrow.Author.Tests.{le-leb, lt-leb}
-use Rattle.words.specs.Output.{put, put_whole, over}
+use Rattle.words.specs.Output.{put, put_whole, count_within, over}
 use Rattle.words.proofs.Parts.{tail}
 
 -- four stores in a row
@@ -30,7 +30,14 @@ pub nothing : (o : List ℕ) (k : ℕ) (bytes : List ℕ) → length o < k + len
 unfolding put_whole
 nothing o k bytes h = rw (lt-leb (k + length bytes) (length o) h)
 
--- what `bytes::copy` leaves in `&mut o[k..]`, back in its place
+-- ---- what `copy` leaves where all of them fit, and how many they are
+pub fits : (o bytes : List ℕ) → length bytes ≤ length o → put_whole o 0 bytes ≡ over bytes o
+fits o bytes h = whole o 0 bytes (rw zero-add h) ∙ put_over o bytes
+
+pub fits_count : (bytes o : List ℕ) → length bytes ≤ length o → count_within bytes o ≡ length bytes
+fits_count bytes o h = rw (le-leb (length bytes) (length o) h)
+
+-- what a copy of s over the front of `&mut o[k..]` leaves there, back in its place
 pub put_tail_law : (o : List ℕ) (k : ℕ) (s : List ℕ) {t : List ℕ}
     → t ≡ take (length s) s ++ drop (length s) (take (length o - k) (drop k o))
     → take k o ++ (t ++ drop (length o - k) (drop k o)) ≡ put o k s
@@ -38,6 +45,15 @@ unfolding put
 put_tail_law o k s e =
     let r : drop (length o - k) (drop k o) ≡ [] = drop_of_length-le (drop k o) {i = length o - k} (rw length-drop (le_refl _)) in
     rw (e, r, take-length, tail, append-nil, drop-drop, append_assoc)
+
+-- the same of what `copy` says
+pub put_tail_over : (o : List ℕ) (k : ℕ) (s : List ℕ) {t : List ℕ}
+    → t ≡ over s (take (length o - k) (drop k o))
+    → take k o ++ (t ++ drop (length o - k) (drop k o)) ≡ put o k s
+unfolding over
+put_tail_over o k s e =
+    put_tail_law o k s
+    (e ∙ ap (λ (l : List ℕ). l ++ drop (length s) (take (length o - k) (drop k o))) (sym (take-length s)))
 
 -- ---- one after the other
 put_put : (o : List ℕ) (k : ℕ) (a b : List ℕ) (m : ℕ) → m ≡ k + length a → m ≤ length o

@@ -9,6 +9,10 @@ put out k bytes = take k out ++ bytes ++ drop (k + length bytes) out
 unfoldable pub put_whole : List ℕ → ℕ → List ℕ → List ℕ
 put_whole out k bytes = cond (leb (k + length bytes) (length out)) (put out k bytes) out
 
+-- how many of the bytes then stand in `out` from its front on: all, or none
+abbrev pub count_within : List ℕ → List ℕ → ℕ
+count_within bytes out = cond (leb (length bytes) (length out)) (length bytes) 0
+
 -- the bytes over the front of `out`; the rest stays
 unfoldable pub over : List ℕ → List ℕ → List ℕ
 over bytes out = bytes ++ drop (length bytes) out

@@ -1,8 +1,10 @@
 // Bytes in slices, and words of 32 bits in four of them, most significant byte first.
-ghost use Rattle.std.specs.Prelude.{◌≡◌, get_or};
-ghost use Rattle.words.specs.Bytes.{same};
+#![tactic(auto)]
+
+ghost use Rattle.std.specs.Prelude.{◌≡◌, get_or, ◌+◌, ◌≤◌};
+ghost use Rattle.words.specs.Bytes.{same, slice, index_of};
 ghost use Rattle.words.specs.Words.{word_of, word_at, word_bytes};
-ghost use Rattle.words.specs.Output.{put_whole};
+ghost use Rattle.words.specs.Output.{put_whole, count_within};
 
 // Whether two slices hold the same bytes.
 pub fn same(a: &[u8], b: &[u8]) -> bool
@@ -63,4 +65,35 @@ pub fn put_word(out: &mut [u8], k: usize, v: u32)
     out[k + 1] = (v / 65536 % 256) as u8;
     out[k + 2] = (v / 256 % 256) as u8;
     out[k + 3] = (v % 256) as u8;
+}
+
+// The bytes of src over the front of dst, and how many they are; none where they do not fit.
+pub fn copy(src: &[u8], dst: &mut [u8]) -> usize
+    ensures count { result ≡ count_within src.now dst.old }
+    ensures written { dst.new ≡ put_whole dst.old 0 src.now }
+{
+    let n = src.len();
+    if dst.len() < n {
+        return 0;
+    }
+    dst[..n].copy_from_slice(src);
+    n
+}
+
+// The place of the first b from `from` on and before `to`; where there is none, the place after them.
+pub fn find(s: &[u8], from: usize, to: usize, b: u8) -> usize
+    ensures place { result ≡ from + index_of b (slice from to s.now) }
+    ensures within { from ≤ to → result ≤ to }
+{
+    let mut i = from;
+    while i < to {
+        if s.len() <= i {
+            return i;
+        }
+        if s[i] == b {
+            return i;
+        }
+        i += 1;
+    }
+    i
 }
