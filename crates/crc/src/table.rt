@@ -37,9 +37,8 @@ const TABLE: [u32; 256] = [
     0x79b737ba, 0x8bdcb4b9, 0x988c474d, 0x6ae7c44e, 0xbe2da0a5, 0x4c4623a6, 0x5f16d052, 0xad7d5351,
 ];
 
-// An entry's place, counted from 256. It is matched on as a field, which the borrow checker leaves alone: for a match
-// on a local it would build a proof of each arm.
-#[derive(Drop)]
+// An entry's place, counted from 256.
+#[derive(Clone, Copy)]
 struct Index(u32);
 
 // The entry of i. A constant array is not data in memory: a function that names it stores it element by element at each

@@ -4,8 +4,8 @@ use mathlib.Core.List.{List, [], ◌∷◌, ◌++◌}
 use Prim.Native.Nat.{ℕ, ◌+◌, ◌*◌, ◌≤◌, ◌<◌}
 use native.Mathlib.Numerals.{add-one}
 use native.Mathlib.Omega.{arith}
-use lib.ListN.{length, get_or, take, drop}
-use lib.Seq.{take-length, take-suc, length-take-le, sets-eq}
+use lib.ListN.{length, get_or, take}
+use lib.Seq.{take-suc, length-take-le, sets-eq}
 use Rattle.words.specs.Words.{word_bytes}
 use Rattle.words.specs.Output.{put, put_whole, over}
 use Rattle.words.proofs.Put.{put_over, then, then_whole}
@@ -44,10 +44,9 @@ tail o details n v h room e f =
     then_whole o 12 (words_bytes (take n details)) (word_bytes v) (12 + 4 * n) e f (omega arith) (omega arith)
 
 -- ---- the calls of `put_record`, in order
--- what `bytes::copy` leaves
-pub copied : (o s : List ℕ) {o₁ : List ℕ} → o₁ ≡ take (length s) s ++ drop (length s) o → o₁ ≡ put o 0 s
-unfolding over
-copied o s e = e ∙ ap (λ (l : List ℕ). l ++ drop (length s) o) (take-length s) ∙ sym (put_over o s)
+-- what `copy` leaves
+pub copied : (o s : List ℕ) {o₁ : List ℕ} → o₁ ≡ over s o → o₁ ≡ put o 0 s
+copied o s e = e ∙ sym (put_over o s)
 
 pub puts : (o : List ℕ) (x : ErrorRecord) {o₁ o₂ o₃ : List ℕ} → 16 + 4 * x.count ≤ length o
     → o₁ ≡ put o 0 (date_bytes x) → o₂ ≡ put_whole o₁ 8 (word_bytes x.count)

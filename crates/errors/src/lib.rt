@@ -1,5 +1,6 @@
 // A station's error records (document 02, note 6): a date and time, up to ten details, and whether more follow. What
 // bytes are a record, reading and writing. Nothing here knows in what frame a record travels.
+#![tactic(auto)]
 
 mod bcd;
 mod calendar;
@@ -7,7 +8,7 @@ pub mod read;
 pub mod write;
 
 // What a record carries. Details past the count are 0, so that a record has one form.
-#[derive(Drop)]
+#[derive(Clone, Copy)]
 pub struct ErrorRecord {
     // of four digits
     pub year: u16,
@@ -26,7 +27,7 @@ pub struct ErrorRecord {
 }
 
 // What reading finds: the record; where the bytes are none, zeros beside a refusal.
-#[derive(Drop)]
+#[derive(Clone, Copy)]
 pub struct Decoded {
     pub accepted: bool,
     pub value: ErrorRecord,

@@ -7,8 +7,7 @@ ghost use Rattle.errors.specs.Writing.{are_zero, is_valid, date_bytes, words_byt
 use super::ErrorRecord;
 use super::bcd::digits;
 use super::calendar::{is_date, is_time};
-use bytes::copy;
-use words::put_word;
+use words::{copy, put_word};
 
 // Whether the details from k on are 0.
 fn are_zero(details: [u32; 10], k: usize) -> bool

@@ -1,5 +1,6 @@
 // Frames of FSCP 8/2: the fields that a frame carries, the frame check, reading and writing. Nothing above this crate
 // knows where in the bytes a field stands.
+#![tactic(auto)]
 
 pub mod control;
 pub mod read;
@@ -12,7 +13,7 @@ pub const LONGEST_FRAME: usize = 248;
 pub const TIMESTAMP_MODULUS: u64 = 281474976710656;
 
 // Cmd, bits 31 to 24 of CTRL, with its code.
-#[derive(Drop)]
+#[derive(Clone, Copy)]
 pub enum Command {
     // S-Connect, 0x00
     Connect,
@@ -39,14 +40,14 @@ pub enum Command {
 }
 
 // Sub CID active, bit 16 of CTRL, and Sub CID, bits 15 to 0.
-#[derive(Drop)]
+#[derive(Clone, Copy)]
 pub enum Subconnection {
     Absent,
     Number(u16),
 }
 
 // What a frame carries beside its body (S-Data).
-#[derive(Drop)]
+#[derive(Clone, Copy)]
 pub struct Fields {
     pub command: Command,
     pub ack: bool,
@@ -66,7 +67,7 @@ pub struct Fields {
 }
 
 // The words of a SubPDU before RSV.
-#[derive(Drop)]
+#[derive(Clone, Copy)]
 pub struct Head {
     // CTRL
     pub control: u32,
@@ -79,14 +80,14 @@ pub struct Head {
 }
 
 // Where a part of some bytes lies.
-#[derive(Drop)]
+#[derive(Clone, Copy)]
 pub struct Span {
     pub start: usize,
     pub end: usize,
 }
 
 // Why bytes are no frame. Document 01's number and trade word stand beside each.
-#[derive(Drop)]
+#[derive(Clone, Copy)]
 pub enum Fault {
     // 4, length
     Length,
@@ -99,7 +100,7 @@ pub enum Fault {
 }
 
 // What reading finds: the fields, with the body at bytes start up to end; or the first fault.
-#[derive(Drop)]
+#[derive(Clone, Copy)]
 pub enum Reading {
     Frame {
         fields: Fields,

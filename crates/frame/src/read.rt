@@ -118,9 +118,9 @@ fn fault_number(fault: Fault) -> u8
     }
 }
 
-// The frame check for the bus card's driver, in C: 0, or the number of the first fault (include/folderpink.h).
-#[unsafe(no_mangle)]
-pub extern "C" fn folderpink_check_frame(bytes: &[u8]) -> u8
+// The frame check for the bus card's driver, in C: 0, or the number of the first fault (include/folderpink.h). The crate
+// frame_c exports it.
+pub fn folderpink_check_frame(bytes: &[u8]) -> u8
     ensures { result ≡ number_of (reading_of bytes.now) }
 {
     let reading = read_frame(bytes);

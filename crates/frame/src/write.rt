@@ -5,8 +5,7 @@ ghost use Rattle.frame.specs.Writing.{is_body_length, is_writable, head_bytes, h
 
 use super::control::{control_of, has_form};
 use super::{Fields, Head, TIMESTAMP_MODULUS};
-use bytes::copy;
-use words::put_word;
+use words::{copy, put_word};
 
 // Whether S-Data can have n bytes: 1 to 25 words.
 pub fn is_body_length(n: usize) -> bool
