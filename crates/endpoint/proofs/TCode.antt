@@ -1,7 +1,7 @@
 -- A slave's time in the standard's words is document 01's, CC counts as carry_counter would, and what the code works out
 -- is that time. T code and CC are the lower 16 bits of clock + offset and the 32 above them; the rest follows from that.
 use Rattle.std.proofs.Common.{◌≡◌, ℕ, ◌+◌, ◌*◌, ◌/◌, ◌%◌, ◌^◌, ◌<◌, Bool, true, false, cond, ltb, sym, refl, ◌∙◌, arith, ltb-false, ltb-true}
-use Rattle.endpoint.specs.Time.{span, master_time}
+use Rattle.endpoint.specs.Time.{span}
 use Rattle.endpoint.specs.TCode.{lower, upper, t_code_of, t_code_carry, cc_of, slave_time, wrapped, TCodeTheorem}
 
 t_code : (clock offset : ℕ) → t_code_of clock offset ≡ (clock + offset) % 65536

@@ -1,5 +1,6 @@
 // One connection's end, as master or as slave: what it keeps, the table of its states, its timers, timestamps and ages,
 // and the answers that calls on it get. The calls themselves are in the crate steps.
+#![tactic(auto)]
 
 pub mod answers;
 pub mod due;
@@ -11,7 +12,7 @@ pub mod updates;
 use frame::Subconnection;
 
 // What a connection was set up with.
-#[derive(Drop)]
+#[derive(Clone, Copy)]
 pub struct Settings {
     // CID
     pub connection: u32,
@@ -31,7 +32,7 @@ pub struct Settings {
 // The states of 001's table 40, for both roles. A master mirrors the slave: the matching reply moves it. Starting is
 // a master's before its first reply, FuncRunning and TerminateMore a slave's alone. TerminateMore: Terminate, where more
 // error records follow.
-#[derive(Drop)]
+#[derive(Clone, Copy)]
 pub enum State {
     Close,
     Starting,
@@ -46,7 +47,7 @@ pub enum State {
 }
 
 // A timestamp that is remembered, if any.
-#[derive(Drop)]
+#[derive(Clone, Copy)]
 pub enum Timestamp {
     Never,
     At(u64),
@@ -54,7 +55,7 @@ pub enum Timestamp {
 
 // What is remembered of timestamps; it survives restart. Sent: a master's last, a slave's last in S-Refresh.
 // Accepted: a slave's last in any frame, a master's last in S-Refresh.
-#[derive(Drop)]
+#[derive(Clone, Copy)]
 pub struct Timestamps {
     pub sent: Timestamp,
     pub accepted: Timestamp,
@@ -62,7 +63,7 @@ pub struct Timestamps {
 
 // A master's request that waits for its reply, by its timestamp. Its command is the one due in the state; in Refresh
 // S-RefreshMO, or S-RefreshGO once that was answered.
-#[derive(Drop)]
+#[derive(Clone, Copy)]
 pub enum Pending {
     Nothing,
     Asked(u64),
@@ -70,7 +71,7 @@ pub enum Pending {
 
 // A master's queue for a command that its user wants sent before S-RefreshReady: empty, or which one waits. Closed:
 // S-RefreshReady has gone since the last start.
-#[derive(Drop)]
+#[derive(Clone, Copy)]
 pub enum Queue {
     Empty,
     InvokeFunc,
@@ -82,7 +83,7 @@ pub enum Queue {
 // Setup, and in Refresh what a measurement of the clocks has of it: pending, measured and offset. Measured: s2 at a
 // slave, m2 at a master. Offset: a slave's ts_offset. Requests: how many setup requests a
 // master has written since its last start or loading, S-Disconnect aside. Invoked: S-InvokeFunc has gone since then.
-#[derive(Drop)]
+#[derive(Clone, Copy)]
 pub struct Setup {
     pub pending: Pending,
     pub measured: u64,
@@ -93,7 +94,7 @@ pub struct Setup {
 }
 
 // Measurements of the clocks in Refresh (document 02): S-RefreshMO, its reply, S-RefreshGO, its reply.
-#[derive(Drop)]
+#[derive(Clone, Copy)]
 pub struct Measurement {
     // S-RefreshMO was answered, and the measurement is not closed: at a slave by S-RefreshGO, at a master by its reply
     pub answered: bool,
@@ -104,7 +105,7 @@ pub struct Measurement {
 }
 
 // What the station's user has set, unset after loading; it survives restart and Terminate. A master's is of no account.
-#[derive(Drop)]
+#[derive(Clone, Copy)]
 pub struct Station {
     // document 02's 'not ready': the station cannot confirm its parameters yet
     pub notready: bool,
@@ -112,7 +113,7 @@ pub struct Station {
 
 // What the calls on a connection hand on by value: all that it keeps, but for the bytes of its value, of its words and of
 // its error record.
-#[derive(Drop)]
+#[derive(Clone, Copy)]
 pub struct Core {
     pub settings: Settings,
     pub state: State,
@@ -135,14 +136,14 @@ pub struct Core {
 }
 
 // How old a value is that is shown, in ticks; of a fail-safe show none is told.
-#[derive(Drop)]
+#[derive(Clone, Copy)]
 pub enum Age {
     None,
     Ticks(u64),
 }
 
 // Why a call is refused: document 01's number and trade word stand beside each.
-#[derive(Drop)]
+#[derive(Clone, Copy)]
 pub enum Reason {
     // 1, clock
     Clock,
@@ -189,7 +190,7 @@ pub enum Reason {
 }
 
 // Done; refused; or refused with the connection ended.
-#[derive(Drop)]
+#[derive(Clone, Copy)]
 pub enum Answer {
     Done,
     Dropped(Reason),
@@ -197,7 +198,7 @@ pub enum Answer {
 }
 
 // What applies of the refusals 11 to 17 and 19 to 21, in the order in which they are given.
-#[derive(Drop)]
+#[derive(Clone, Copy)]
 pub struct Faults {
     pub turn: bool,
     pub session: bool,
@@ -212,7 +213,7 @@ pub struct Faults {
 }
 
 // The state that a command leads to, or that the state does not take it.
-#[derive(Drop)]
+#[derive(Clone, Copy)]
 pub enum Next {
     To(State),
     No,
