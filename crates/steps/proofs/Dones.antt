@@ -32,11 +32,10 @@ use Rattle.endpoint.specs.Due.{request_due, is_pending, answers_to, may_request,
 use Rattle.endpoint.specs.Due.{may_queue_read, last_step, is_late, refresh_due, awaited_in, sequence_of}
 use Rattle.errors.specs.Reading.{is_record}
 use Rattle.endpoint.specs.Time.{is_above, ended_of, time_of}
-use Rattle.steps.specs.Frames.{nothing, frame, setup_data, due_data, show_width, session_of, has_record, reply_fields}
+use Rattle.steps.specs.Frames.{nothing, setup_data, due_data, show_width, session_of, has_record}
 use Rattle.steps.specs.Calls.{Outcome, outcome, dropped, refused, start_of, restart_of, set_not_ready_of}
 use Rattle.steps.specs.Calls.{hand_faults, set_result_of, clear_result_of, command_data, invoke_of, set_record_of}
 use Rattle.steps.specs.Calls.{clear_record_of, read_error_of, write_error_of}
-use Rattle.transitions.specs.ByFrame.{synchronized_of}
 use Rattle.steps.specs.Calls.{is_value_due, send_faults, send_of, stop_faults, stop_of}
 use Rattle.steps.specs.Deliveries.{refresh_faults, is_turn, is_width, is_users, request_faults, is_result, reply_faults}
 use Rattle.steps.specs.Deliveries.{take_refresh, is_stray, is_reply_turn, is_awaited}

@@ -6,7 +6,7 @@ use Prim.Native.Nat.{ℕ, ◌+◌, ◌/◌, ◌%◌, ◌≤◌, ◌<◌}
 use native.Mathlib.Omega.{arith}
 use lib.Dec.{eqb, leb}
 use lib.ListN.{length, take, drop, replicate, drop_of_length-le}
-use lib.Seq.{length-take-le, take_all, take-length}
+use lib.Seq.{length-take-le, take_all}
 use borrow.Author.Tests.{leb-true, eqb-true, not-false}
 use mathlib.Mathlib.Data.Bool.Basic.{and_elim_left as and_left, and_elim_right as and_right}
 use Rattle.frame.specs.declared.Command.TheVariants as K
@@ -56,10 +56,10 @@ module _ (word n : ℕ) (b : List ℕ) (l : n ≤ length b) {o : List ℕ}
   unfolding put put_whole
   room_after h = rw (e, length-take-le n b l) h
 
-  pub joined_is : {t : List ℕ} → t ≡ take (length (take n b)) (take n b) ++ drop (length (take n b)) (take 96 (drop 4 o))
+  pub joined_is : {t : List ℕ} → t ≡ take n b ++ drop (length (take n b)) (take 96 (drop 4 o))
       → take 4 o ++ (t ++ drop 96 (drop 4 o)) ≡ word_bytes word ++ (take n b ++ drop n (replicate 96 0))
   unfolding put put_whole
-  joined_is h = rw (h, e, take-length (take n b), length-take-le n b l, append-nil)
+  joined_is h = rw (h, e, length-take-le n b l, append-nil)
 
 pub command_short : (word : ℕ) (b : List ℕ) → length b < 96
     → word_bytes word ++ (take (length b) b ++ drop (length b) (replicate 96 0)) ≡ padded_of (command_data word b)

@@ -1,6 +1,6 @@
 -- No call but a send and a deliver where S-RefreshReady is due looks at the bytes of what was handed over; and each leaves
 -- them, or what it hands over.
-use mathlib.Core.Path.{◌≡◌, refl, sym, ap, subst, ◌∙◌}
+use mathlib.Core.Path.{◌≡◌, refl, sym, ap, subst}
 use mathlib.Core.Bool.{Bool, true, false, ◌&&◌, ◌||◌, not, cond, and-false, beq, true≢false}
 use mathlib.Core.List.{List}
 use Prim.Native.Nat.{ℕ}
@@ -8,7 +8,6 @@ use lib.Dec.{eqb}
 use lib.ListN.{length}
 use Rattle.words.specs.Bytes.{same}
 use Rattle.errors.specs.Reading.{is_record, more_follows}
-use Rattle.frame.specs.declared.Command.{Command}
 use Rattle.frame.specs.declared.Command.TheVariants as K
 use Rattle.frame.specs.declared.Fields.{Fields}
 use Rattle.frame.specs.Control.{is}
@@ -32,10 +31,10 @@ use Rattle.transitions.specs.ByFrame.{remeasured_of, adjusted_of, synchronized_o
 use Rattle.transitions.specs.ByFrame.{setup_heard_of, measurement_heard_of, heard_of}
 use Rattle.steps.specs.Frames.{Written, nothing, frame, due_data, request_fields, reply_fields, is_busy, reply_data}
 use Rattle.steps.specs.Frames as W
-use Rattle.steps.specs.Frames.{padded_of, has_record}
+use Rattle.steps.specs.Frames.{padded_of}
 use Rattle.steps.specs.Calls.{Outcome, outcome, dropped, hand_faults, command_data, send_faults, send_of}
 use Rattle.steps.specs.Calls.{is_value_due, stop_faults, disconnect_of}
-use Rattle.steps.specs.Deliveries.{refresh_faults, is_turn, request_faults, is_result, lacks_number, replies_record}
+use Rattle.steps.specs.Deliveries.{refresh_faults, request_faults, is_result, lacks_number, replies_record}
 use Rattle.steps.specs.Deliveries.{is_reply_turn, is_awaited}
 use Rattle.steps.specs.Deliveries.{reply_faults, take_refresh, take_request, take_reply, deliver_of}
 use Rattle.steps.specs.Steps.{Act, start, stop, restart, set_not_ready, set_result, clear_result, set_record}

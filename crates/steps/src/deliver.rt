@@ -18,7 +18,6 @@ use super::frames::{
     write_reply,
 };
 use super::lifecycle::{refused, stepped};
-use bytes::copy;
 use endpoint::answers::{first_of, is_done, is_dropped, is_ended, setup_faults, value_faults};
 use endpoint::due::{
     answers_to, awaited_in, is_late, is_measuring, is_pending, request_due, sequence_of,
@@ -31,6 +30,7 @@ use frame::control::{is, is_absent, is_joined, is_same};
 use frame::write::{head_of, is_body_length};
 use frame::{Command, Fields, LONGEST_FRAME, Subconnection};
 use transitions::by_frame::{ended_by, heard, refreshed, taken};
+use words::copy;
 
 // Whether a frame carries another session number than the endpoint's own, or none.
 fn is_foreign(e: Core, session: Subconnection) -> bool

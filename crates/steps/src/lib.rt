@@ -1,5 +1,6 @@
 // The calls on one endpoint, by value: what it sends, takes and shows. They know fields and no offsets of bytes, and
 // nothing of the table that holds the endpoint.
+#![tactic(auto)]
 
 pub mod deliver;
 mod frames;
@@ -12,7 +13,7 @@ pub mod station;
 use endpoint::{Age, Answer, Core};
 
 // A call's answer, the core of the endpoint it leaves, and the bytes written to the lent output.
-#[derive(Drop)]
+#[derive(Clone, Copy)]
 pub struct Stepped {
     pub answer: Answer,
     pub core: Core,
@@ -20,7 +21,7 @@ pub struct Stepped {
 }
 
 // A show's count of bytes, the mark 'fail-safe', and the age of the value.
-#[derive(Drop)]
+#[derive(Clone, Copy)]
 pub struct Shown {
     pub count: usize,
     pub failsafe: bool,
@@ -28,7 +29,7 @@ pub struct Shown {
 }
 
 // S-Data: the first length bytes.
-#[derive(Drop)]
+#[derive(Clone, Copy)]
 pub struct Body {
     pub bytes: [u8; 100],
     pub length: usize,

@@ -10,14 +10,13 @@ ghost use Rattle.steps.specs.Says.{plain_step};
 
 use super::Stepped;
 use super::lifecycle::stepped;
-use bytes::copy;
 use endpoint::answers::{call_faults, first_of, is_done, record_faults};
 use endpoint::due::{may_queue, may_queue_read};
 use endpoint::{Answer, Core, Reason};
 use errors::read::is_record;
 use frame::write::is_body_length;
 use transitions::by_call::{invoked, read_queued, write_queued};
-use words::put_word;
+use words::{copy, put_word};
 
 // The answer to a call that hands over n bytes of S-Data: 11 or 12.
 pub(crate) fn hand_answer(turn: bool, n: usize) -> Answer
