@@ -1,5 +1,7 @@
 // A connection's record in memory that a caller lends: numbers and bytes alone, so that C can lend it, and whatever
 // bytes it holds it is some connection's.
+#![tactic(auto)]
+
 ghost use Rattle.std.specs.Prelude.{◌≡◌, cond, eqb};
 ghost use Rattle.endpoint.specs.Endpoint.{bare, core_of};
 ghost use Rattle.frame.specs.declared.Command.TheVariants as K;
@@ -24,7 +26,7 @@ const OFFSET_LIFE: u64 = 30000;
 // set; a timestamp and the session number count where their flags are set. What a call looks at in every record of the
 // table stands first: the timer, the measurement of the clocks and the CID.
 #[repr(C)]
-#[derive(Drop)]
+#[derive(Clone, Copy)]
 pub struct Stored {
     // the clock reading where the timer starts
     pub since: u64,
@@ -82,7 +84,7 @@ pub struct Stored {
 }
 
 #[repr(C)]
-#[derive(Drop)]
+#[derive(Clone, Copy)]
 pub struct Record {
     pub stored: Stored,
     // a value that was taken, with zeros after it; else the fail-safe value

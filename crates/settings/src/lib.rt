@@ -1,5 +1,7 @@
 // The settings list: seven words of 32 bits a connection, the top four bits of each its kind. Which lists are right,
 // and the settings of each connection.
+#![tactic(auto)]
+
 ghost use Rattle.std.specs.Prelude.{◌≡◌, get_or, ◌<◌};
 ghost use Rattle.settings.specs.Words.{rest_of, is_ticks, is_words, has_kinds, has_ranges, connection_of, settings_of};
 ghost use Rattle.settings.specs.Lists.{word_of, connection_at, settings_at, is_connection_at, is_new_at, are_connections};

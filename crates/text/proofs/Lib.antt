@@ -4,6 +4,7 @@ pub mod Ranges
 pub mod Takes
 pub mod Every
 pub mod Words
+pub mod Names
 pub mod Numbers
 pub mod Limits
 pub mod NumbersBack

@@ -1,7 +1,7 @@
 -- What is left of a buffer, and the piece of it up to the newline at e.
 use Rattle.std.proofs.Common.{◌≡◌, ℕ, zero, suc, ◌+◌, ◌-◌, ◌<◌, ◌≤◌, min, Bool, true, false, cond, ltb, List, [], ◌∷◌, length, take, drop, sym, refl, ap, ◌∙◌, ap₂, add-zero, arith, length-drop, drop_of_length-le, length-take, length-take-le, take_all, take-take, ltb-false, ltb-true, le-ltb, lt-ltb}
 use lib.Seq.{take-nil}
-use Rattle.bytes.specs.Bytes.{slice, index_of}
+use Rattle.words.specs.Bytes.{slice, index_of}
 use Rattle.text.specs.declared.lines.Input.{Input}
 use Rattle.text.specs.Lines.{current_of, left_of, taken_of}
 
@@ -70,7 +70,6 @@ unfolding slice
 none_left i b h = drop_of_length-le (take i.to b) {i = i.from} (omega (arith, length-take i.to b))
 
 pub none_taken : (i : Input) (most : ℕ) → current_of i ≡ taken_of i [] most
-unfolding index_of
 none_taken i most =
     let n = (current_of i).length in
     let l : n ≡ n + length (take (most - n) []) =

@@ -1,7 +1,7 @@
 -- The first word of a line, and what follows it, found by the word's length r.
 use Rattle.std.proofs.Common.{◌≡◌, ℕ, ◌+◌, ◌-◌, ◌≤◌, true, eqb, List, length, take, drop, sym, refl, ap, ◌∙◌, arith, length-drop, drop_of_length-le, length-take, eqb-true}
 use mathlib.Mathlib.Data.Bool.Basic.{and_elim_left}
-use Rattle.bytes.specs.Bytes.{index_of}
+use Rattle.words.specs.Bytes.{index_of}
 use Rattle.words.proofs.Parts.{tail}
 use Rattle.text.specs.Printing.{every}
 use Rattle.text.specs.Reading.{word_in, rest_of, is_hex_digit, is_word}

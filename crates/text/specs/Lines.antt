@@ -1,6 +1,6 @@
 -- Lines of an input that is read a buffer at a time: what is kept of the line, and how far the input was read.
 use Rattle.std.specs.Prelude.{ℕ, ◌+◌, ◌-◌, ◌%◌, ◌^◌, false, cond, ◌&&◌, List, length, take, ◌==◌, nat_lt}
-use Rattle.bytes.specs.Bytes.{slice, index_of}
+use Rattle.words.specs.Bytes.{slice, index_of}
 use Rattle.text.specs.declared.lines.Input.{Input}
 
 -- before anything was read

@@ -1,5 +1,6 @@
 // Call lists as text: a line read as a call, the text of an answer, and that of a bound on ages. What is written stands
 // at the front of lent memory.
+#![tactic(auto)]
 
 pub mod answer;
 pub mod bounds;
@@ -11,14 +12,14 @@ mod put;
 mod word;
 
 // The entry that an answer names, if it names one.
-#[derive(Drop)]
+#[derive(Clone, Copy)]
 pub enum Entry {
     Absent,
     At(usize),
 }
 
 // The calls that CLOCK and ENTRY alone follow.
-#[derive(Drop)]
+#[derive(Clone, Copy)]
 pub enum Act {
     Start,
     Stop,
@@ -35,7 +36,7 @@ pub enum Act {
 }
 
 // What the bytes are that follow CLOCK and ENTRY.
-#[derive(Drop)]
+#[derive(Clone, Copy)]
 pub enum Kind {
     // The value that is sent.
     Value,
@@ -47,7 +48,7 @@ pub enum Kind {
 }
 
 // What a line sets for the calls after it.
-#[derive(Drop)]
+#[derive(Clone, Copy)]
 pub enum Parameter {
     // The length of the output that they are lent.
     Room,
@@ -58,7 +59,7 @@ pub enum Parameter {
 }
 
 // What a line of a call list is. The bytes of a call stand as digits from `start` to the end of the line.
-#[derive(Drop)]
+#[derive(Clone, Copy)]
 pub enum Line {
     // Settings words.
     Load,

@@ -5,10 +5,10 @@ ghost use Rattle.text.specs.Printing.{Puts};
 ghost use Rattle.text.specs.Lines.{first_input, current_of, refilled_of, left_of, kept_of, taken_of};
 
 use super::put::put_text;
-use bytes::scan::find;
+use words::find;
 
 // How far the input was read.
-#[derive(Drop)]
+#[derive(Clone, Copy)]
 pub struct Input {
     // the bytes of the buffer that are still to be taken
     pub from: usize,

@@ -11,7 +11,7 @@ use super::{Act, Kind, Line, Parameter};
 use words::{byte_at, same};
 
 // What the first word of a line names.
-#[derive(Drop)]
+#[derive(Clone, Copy)]
 pub(crate) enum Name {
     Load,
     Timed(Act),
@@ -24,14 +24,14 @@ pub(crate) enum Name {
 }
 
 // CLOCK and ENTRY.
-#[derive(Drop)]
+#[derive(Clone, Copy)]
 pub(crate) enum Pair {
     Both { clock: u64, entry: u32 },
     Broken,
 }
 
 // A word that begins a call, filled up with spaces, and what it names.
-#[derive(Drop)]
+#[derive(Clone, Copy)]
 struct Verb([u8; 10], Name);
 
 type Verbs = [Verb; 20];

@@ -3,7 +3,7 @@ ghost use Rattle.std.specs.Prelude.{◌≡◌, ◌+◌, ◌*◌, ◌/◌, ◌%�
 ghost use Rattle.words.specs.Output.{put};
 ghost use Rattle.text.specs.Printing.{last_digits, width_from, digits_of, hex_digit, hex_of, Puts};
 
-use bytes::copy;
+use words::copy;
 
 // The byte b at k.
 pub(crate) fn put_byte(out: &mut [u8], k: usize, b: u8)

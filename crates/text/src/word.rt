@@ -1,9 +1,9 @@
 // Words of a line, separated by one space.
 ghost use Rattle.std.specs.Prelude.{◌≡◌, ◌≤◌, length};
-ghost use Rattle.bytes.specs.Bytes.{index_of};
+ghost use Rattle.words.specs.Bytes.{index_of};
 ghost use Rattle.text.specs.Reading.{word_in, rest_of};
 
-use bytes::scan::find;
+use words::find;
 
 // The length of the first word.
 fn word_length(s: &[u8]) -> usize
