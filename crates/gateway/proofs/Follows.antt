@@ -474,8 +474,8 @@ module _ (ys : List Record) (c : Call) (w : Handed) (s out out' : List ℕ) (m :
 
   by_reading_law : (x : Reading) → reading_of s ≡ x → w ≡ handed_at ys sought → FrameMoves sought w s x out out' m
       → Comes (by_reading d c.clock (length out) s x)
-  by_reading_law (Frame f start end) is read u = read_comes f start end is (u, read)
-  by_reading_law (Refused fault) is read u =
+  by_reading_law (Frame f start end) is w_is u = read_comes f start end is (u, w_is)
+  by_reading_law (Refused fault) is w_is u =
       let a = Dropped (reason_of fault) in
       let g = is_reading sought.call.gateway sought.call.clock in
       let l = ltb sought.room sought.call.gateway.count in
@@ -485,7 +485,7 @@ module _ (ys : List Record) (c : Call) (w : Handed) (s out out' : List ℕ) (m :
 
   pub deliver_comes : w ≡ handed_at ys sought → DeliverMoves sought w s out out' m
       → Comes (deliver_in d c.clock (length out) s)
-  deliver_comes read u =
+  deliver_comes w_is u =
       let none = empty_cycle d c.clock short in
       let some = by_reading d c.clock (length out) s (reading_of s) in
       bcase (eqb (length s) 0)
@@ -493,7 +493,7 @@ module _ (ys : List Record) (c : Call) (w : Handed) (s out out' : List ℕ) (m :
       subst Comes (sym (cond_true (eqb (length s) 0) none some h))
       (fault_comes Done (not_ended (is_reading sought.call.gateway sought.call.clock)
       (ltb sought.room sought.call.gateway.count) short Done refl) e.moves e.output))
-      (λ h. subst Comes (sym (cond_false (eqb (length s) 0) none some h)) (by_reading_law (reading_of s) refl read (u.frame h)))
+      (λ h. subst Comes (sym (cond_false (eqb (length s) 0) none some h)) (by_reading_law (reading_of s) refl w_is (u.frame h)))
 
 pub deliver_follows : (ys : List Record) (c : Call) (s out : List ℕ) (k : Sought) (p : Picked) (us : List Record)
     (w : Handed) (us₂ : List Record) (m : Moved) (out' : List ℕ) (v : List ℕ) (t : Called) (us₃ : List Record) (r : Called)

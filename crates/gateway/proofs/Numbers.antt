@@ -1,18 +1,13 @@
 -- The number that a call answers is that of the result that its contract names.
 use mathlib.Core.Path.{◌≡◌, refl, ap}
 use mathlib.Core.Bool.{Bool, true, false, cond}
-use mathlib.Core.List.{List}
-use Prim.Native.Nat.{ℕ}
 use lib.Dec.{ltb}
 use lib.ListN.{length}
-use Rattle.endpoint.specs.declared.Reason.TheVariants as R
-use Rattle.endpoint.specs.declared.Answer.TheVariants.{Done, Dropped}
 use Rattle.endpoint.specs.Answers.{number_of}
 use Rattle.settings.specs.Lists.{count_of, is_list}
-use Rattle.records.specs.declared.Record.{Record}
 use Rattle.gateway.specs.declared.Called.{Called}
 use Rattle.gateway.specs.declared.Told.{Told}
-use Rattle.gateway.specs.Loading.{Loaded, loaded_of}
+use Rattle.gateway.specs.Loading.{Loaded}
 use Rattle.gateway.specs.Numbers.{Numbers}
 
 of_answer : (b s : Bool) (x y z : Loaded) → number_of x.answer ≡ 2 → number_of y.answer ≡ 0 → number_of z.answer ≡ 18

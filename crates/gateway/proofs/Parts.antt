@@ -1,4 +1,4 @@
--- What the functions over the records ensure, as the laws of `lent` take it.
+-- What the functions over the records ensure.
 use mathlib.Core.Path.{◌≡◌}
 use mathlib.Core.List.{List}
 use Prim.Native.Nat.{ℕ}
@@ -9,7 +9,7 @@ use Rattle.gateway.specs.declared.Sought.{Sought}
 use Rattle.gateway.specs.declared.Picked.{Picked}
 use Rattle.gateway.specs.declared.Handed.{Handed}
 use Rattle.gateway.specs.declared.Moved.{Moved}
-use Rattle.gateway.specs.Parts.{picked_of, held_at, handed_at, met_of, settled, value_at, words_at, error_info_at}
+use Rattle.gateway.specs.Parts.{picked_of, held_at, handed_at, met_of, settled, value_at}
 
 abbrev pub PickSaid : List Record → Call → Picked → List Record → Type 0
 PickSaid ys c p us = (p ≡ picked_of ys c) × (us ≡ ys)
@@ -28,9 +28,3 @@ SettleSaid ys m r zs = (r ≡ m.told) × (zs ≡ settled ys m)
 
 abbrev pub PutSaid : List Record → Moved → List ℕ → Called → List Record → Type 0
 PutSaid ys m v r zs = (r ≡ m.told) × (zs ≡ value_at m.keep v ys)
-
-abbrev pub PutWordsSaid : List Record → Moved → List ℕ → Called → List Record → Type 0
-PutWordsSaid ys m w r zs = (r ≡ m.told) × (zs ≡ words_at m.keep w ys)
-
-abbrev pub PutErrorInfoSaid : List Record → Moved → List ℕ → Called → List Record → Type 0
-PutErrorInfoSaid ys m x r zs = (r ≡ m.told) × (zs ≡ error_info_at m.keep x ys)

@@ -1,5 +1,5 @@
 // The calls as C makes them: the call is lent beside the records, and the gateway of the answer is kept in it, for the
-// next call. All else of the lent call stays as it was.
+// next call. All else of the lent call stays as it was. The crate gateway_c exports each of them under its name.
 ghost use Rattle.std.specs.Prelude.{◌≡◌, length};
 ghost use Rattle.records.specs.Records.{is_set};
 ghost use Rattle.gateway.specs.Tables.{lent};
@@ -31,8 +31,7 @@ fn told(t: Called) -> Told
     }
 }
 
-#[unsafe(no_mangle)]
-pub extern "C" fn folderpink_start(c: &mut Call, rs: &mut [Record]) -> Told
+pub fn folderpink_start(c: &mut Call, rs: &mut [Record]) -> Told
     ensures { LentCallSays (start_in (lent c.old.gateway rs.old) c.old.clock
         c.old.entry) c.old c.new rs.new result }
 {
@@ -41,8 +40,7 @@ pub extern "C" fn folderpink_start(c: &mut Call, rs: &mut [Record]) -> Told
     told(t)
 }
 
-#[unsafe(no_mangle)]
-pub extern "C" fn folderpink_restart(c: &mut Call, rs: &mut [Record]) -> Told
+pub fn folderpink_restart(c: &mut Call, rs: &mut [Record]) -> Told
     ensures { LentCallSays (restart_in (lent c.old.gateway rs.old) c.old.clock
         c.old.entry c.old.session) c.old c.new rs.new result }
 {
@@ -51,8 +49,7 @@ pub extern "C" fn folderpink_restart(c: &mut Call, rs: &mut [Record]) -> Told
     told(t)
 }
 
-#[unsafe(no_mangle)]
-pub extern "C" fn folderpink_set_not_ready(c: &mut Call, rs: &mut [Record]) -> Told
+pub fn folderpink_set_not_ready(c: &mut Call, rs: &mut [Record]) -> Told
     ensures { LentCallSays (set_not_ready_in (lent c.old.gateway rs.old)
         c.old.clock c.old.entry (is_set c.old.notready))
         c.old c.new rs.new result }
@@ -62,8 +59,7 @@ pub extern "C" fn folderpink_set_not_ready(c: &mut Call, rs: &mut [Record]) -> T
     told(t)
 }
 
-#[unsafe(no_mangle)]
-pub extern "C" fn folderpink_set_result(c: &mut Call, rs: &mut [Record], bytes: &[u8]) -> Told
+pub fn folderpink_set_result(c: &mut Call, rs: &mut [Record], bytes: &[u8]) -> Told
     ensures { LentCallSays (set_result_in (lent c.old.gateway rs.old)
         c.old.clock c.old.entry bytes.now)
         c.old c.new rs.new result }
@@ -73,8 +69,7 @@ pub extern "C" fn folderpink_set_result(c: &mut Call, rs: &mut [Record], bytes: 
     told(t)
 }
 
-#[unsafe(no_mangle)]
-pub extern "C" fn folderpink_clear_result(c: &mut Call, rs: &mut [Record]) -> Told
+pub fn folderpink_clear_result(c: &mut Call, rs: &mut [Record]) -> Told
     ensures { LentCallSays (clear_result_in (lent c.old.gateway rs.old)
         c.old.clock c.old.entry) c.old c.new rs.new result }
 {
@@ -83,8 +78,7 @@ pub extern "C" fn folderpink_clear_result(c: &mut Call, rs: &mut [Record]) -> To
     told(t)
 }
 
-#[unsafe(no_mangle)]
-pub extern "C" fn folderpink_set_record(c: &mut Call, rs: &mut [Record], bytes: &[u8]) -> Told
+pub fn folderpink_set_record(c: &mut Call, rs: &mut [Record], bytes: &[u8]) -> Told
     ensures { LentCallSays (set_record_in (lent c.old.gateway rs.old)
         c.old.clock c.old.entry bytes.now)
         c.old c.new rs.new result }
@@ -94,8 +88,7 @@ pub extern "C" fn folderpink_set_record(c: &mut Call, rs: &mut [Record], bytes: 
     told(t)
 }
 
-#[unsafe(no_mangle)]
-pub extern "C" fn folderpink_clear_record(c: &mut Call, rs: &mut [Record]) -> Told
+pub fn folderpink_clear_record(c: &mut Call, rs: &mut [Record]) -> Told
     ensures { LentCallSays (clear_record_in (lent c.old.gateway rs.old)
         c.old.clock c.old.entry) c.old c.new rs.new result }
 {
@@ -104,8 +97,7 @@ pub extern "C" fn folderpink_clear_record(c: &mut Call, rs: &mut [Record]) -> To
     told(t)
 }
 
-#[unsafe(no_mangle)]
-pub extern "C" fn folderpink_invoke(c: &mut Call, rs: &mut [Record], bytes: &[u8]) -> Told
+pub fn folderpink_invoke(c: &mut Call, rs: &mut [Record], bytes: &[u8]) -> Told
     ensures { LentCallSays (invoke_in (lent c.old.gateway rs.old)
         c.old.clock c.old.entry c.old.word bytes.now)
         c.old c.new rs.new result }
@@ -115,8 +107,7 @@ pub extern "C" fn folderpink_invoke(c: &mut Call, rs: &mut [Record], bytes: &[u8
     told(t)
 }
 
-#[unsafe(no_mangle)]
-pub extern "C" fn folderpink_read_error(c: &mut Call, rs: &mut [Record]) -> Told
+pub fn folderpink_read_error(c: &mut Call, rs: &mut [Record]) -> Told
     ensures { LentCallSays (read_error_in (lent c.old.gateway rs.old)
         c.old.clock c.old.entry) c.old c.new rs.new result }
 {
@@ -125,8 +116,7 @@ pub extern "C" fn folderpink_read_error(c: &mut Call, rs: &mut [Record]) -> Told
     told(t)
 }
 
-#[unsafe(no_mangle)]
-pub extern "C" fn folderpink_write_error(c: &mut Call, rs: &mut [Record], bytes: &[u8]) -> Told
+pub fn folderpink_write_error(c: &mut Call, rs: &mut [Record], bytes: &[u8]) -> Told
     ensures { LentCallSays (write_error_in (lent c.old.gateway rs.old)
         c.old.clock c.old.entry bytes.now)
         c.old c.new rs.new result }
@@ -136,8 +126,7 @@ pub extern "C" fn folderpink_write_error(c: &mut Call, rs: &mut [Record], bytes:
     told(t)
 }
 
-#[unsafe(no_mangle)]
-pub extern "C" fn folderpink_stop(c: &mut Call, rs: &mut [Record], out: &mut [u8]) -> Told
+pub fn folderpink_stop(c: &mut Call, rs: &mut [Record], out: &mut [u8]) -> Told
     ensures { LentOutputSays (stop_in (lent c.old.gateway rs.old) c.old.clock
         (length out.old) c.old.entry)
         c.old c.new rs.new out.old out.new result }
@@ -147,13 +136,7 @@ pub extern "C" fn folderpink_stop(c: &mut Call, rs: &mut [Record], out: &mut [u8
     told(t)
 }
 
-#[unsafe(no_mangle)]
-pub extern "C" fn folderpink_send(
-    c: &mut Call,
-    rs: &mut [Record],
-    value: &[u8],
-    out: &mut [u8],
-) -> Told
+pub fn folderpink_send(c: &mut Call, rs: &mut [Record], value: &[u8], out: &mut [u8]) -> Told
     ensures { LentOutputSays (send_in (lent c.old.gateway rs.old) c.old.clock
         (length out.old) c.old.entry value.now)
         c.old c.new rs.new out.old out.new result }
@@ -163,8 +146,7 @@ pub extern "C" fn folderpink_send(
     told(t)
 }
 
-#[unsafe(no_mangle)]
-pub extern "C" fn folderpink_show(c: &mut Call, rs: &mut [Record], out: &mut [u8]) -> Told
+pub fn folderpink_show(c: &mut Call, rs: &mut [Record], out: &mut [u8]) -> Told
     ensures { LentOutputSays (show_in (lent c.old.gateway rs.old) c.old.clock
         (length out.old) c.old.entry)
         c.old c.new rs.new out.old out.new result }
@@ -174,13 +156,7 @@ pub extern "C" fn folderpink_show(c: &mut Call, rs: &mut [Record], out: &mut [u8
     told(t)
 }
 
-#[unsafe(no_mangle)]
-pub extern "C" fn folderpink_deliver(
-    c: &mut Call,
-    rs: &mut [Record],
-    bytes: &[u8],
-    out: &mut [u8],
-) -> Told
+pub fn folderpink_deliver(c: &mut Call, rs: &mut [Record], bytes: &[u8], out: &mut [u8]) -> Told
     ensures { LentOutputSays (deliver_in (lent c.old.gateway rs.old)
         c.old.clock (length out.old) bytes.now)
         c.old c.new rs.new out.old out.new result }
@@ -191,8 +167,7 @@ pub extern "C" fn folderpink_deliver(
 }
 
 // Of the lent call only the gateway changes, to that of the loaded table; only the session number is read.
-#[unsafe(no_mangle)]
-pub extern "C" fn folderpink_load(c: &mut Call, rs: &mut [Record], list: &[u32]) -> Told
+pub fn folderpink_load(c: &mut Call, rs: &mut [Record], list: &[u32]) -> Told
     ensures { LentLoadSays list.now rs.old
         c.old c.new rs.new result }
 {

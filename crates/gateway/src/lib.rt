@@ -1,5 +1,6 @@
 // A gateway: the calls on a table of 1 to 64 connections whose records the caller lends: calls, deliver and load for
-// Rattle, and exports for C (include/folderpink.h). All else is by value.
+// Rattle, and what gateway_c exports for C (include/folderpink.h). All else is by value.
+#![tactic(auto)]
 
 pub mod calls;
 pub mod deliver;
@@ -12,7 +13,7 @@ use records::{Record, Stored};
 
 // By value beside the records: the last accepted clock reading, 0 before the first, and the size of the table.
 #[repr(C)]
-#[derive(Drop)]
+#[derive(Clone, Copy)]
 pub struct Gateway {
     pub last: u64,
     pub count: usize,
@@ -21,7 +22,7 @@ pub struct Gateway {
 // What a call is asked with; notready is set_not_ready's alone, the session number load's and restart's, and the
 // command word invoke's. C lends it, and each call keeps the gateway in it.
 #[repr(C)]
-#[derive(Drop)]
+#[derive(Clone, Copy)]
 pub struct Call {
     pub gateway: Gateway,
     pub clock: u64,
@@ -34,7 +35,7 @@ pub struct Call {
 // What a call answers: the gateway for the next call; the bytes written to the lent output; the entry, where one is
 // named; the age in ticks of a value that is shown, where it is aged; document 01's number; the mark 'fail-safe' of a
 // show.
-#[derive(Drop)]
+#[derive(Clone, Copy)]
 pub struct Called {
     pub gateway: Gateway,
     pub count: usize,
@@ -48,7 +49,7 @@ pub struct Called {
 
 // What C is told: all of Called but the gateway.
 #[repr(C)]
-#[derive(Drop)]
+#[derive(Clone, Copy)]
 pub struct Told {
     pub count: usize,
     pub entry: usize,
@@ -60,7 +61,7 @@ pub struct Told {
 }
 
 // A frame's CID, and what is asked.
-#[derive(Drop)]
+#[derive(Clone, Copy)]
 pub struct Sought {
     pub call: Call,
     pub connection: u32,
@@ -68,7 +69,7 @@ pub struct Sought {
 
 // What a call's own step starts from: all of the record but the bytes of its value, of its words and of its error
 // record, as it was, the length of the slice, and the record's place in it.
-#[derive(Drop)]
+#[derive(Clone, Copy)]
 pub struct Picked {
     pub stored: Stored,
     pub call: Call,
@@ -77,7 +78,7 @@ pub struct Picked {
 }
 
 // The bytes of what its user has handed over: the words, and the error record.
-#[derive(Drop)]
+#[derive(Clone, Copy)]
 pub struct Handed {
     pub words: [u8; 100],
     pub errorinfo: [u8; 56],
@@ -86,7 +87,7 @@ pub struct Handed {
 // What a call comes to: the first `steps` records take the clock step, then `stored` is put at `spot`, the value at
 // `wipe` is the fail-safe one, and a new value, new words or a new error record stand at `keep`. Past the slice nothing is
 // stored.
-#[derive(Drop)]
+#[derive(Clone, Copy)]
 pub struct Moved {
     pub stored: Stored,
     pub told: Called,
@@ -98,7 +99,7 @@ pub struct Moved {
 }
 
 // What loading answers, and how many records it makes.
-#[derive(Drop)]
+#[derive(Clone, Copy)]
 pub struct Plan {
     pub told: Called,
     pub count: usize,

@@ -1,5 +1,4 @@
-// The functions over the lent records, each an instance of a law of the crate lent, and the parts by value that the
-// laws name. Their shapes are the laws'.
+// The functions over the lent records, in the words of the crate lent, and the parts of them that are by value.
 ghost use Rattle.std.specs.Prelude.{◌≡◌, eqb};
 ghost use Rattle.endpoint.specs.Endpoint.{no_bytes, no_record};
 ghost use Rattle.gateway.specs.Tables.{blank_record};

@@ -3,8 +3,9 @@
 --     first_next, first_still      element i too is changed, or is one that f leaves as it is
 --     first_all            once all elements are changed, more makes no difference.        set_past     a store past the end changes nothing
 --     filled f n ys          the first n elements are f 0, f 1, ..: below, with its length and its elements
-use Rattle.std.specs.Prelude.{◌≡◌, refl, ℕ, zero, suc, ◌<◌, ◌≤◌, Bool, true, false, cond, List, [], ◌∷◌, length, get_or, set}
-use Rattle.std.proofs.Common.{sym, ap, ◌∙◌, not-suc-le-zero, le_of_suc-le-suc, arith}
+use Rattle.std.specs.Prelude.{◌≡◌, refl, ℕ, zero, suc, pred, ◌<◌, ◌≤◌, Bool, true, false, cond, List, [], ◌∷◌, length, get_or, set}
+use Rattle.std.proofs.Common.{sym, ap, ◌∙◌, not-suc-le-zero, le_of_suc-le-suc}
+use Rattle.std.proofs.Math.Nat.{suc-ne-zero, zero-lt-suc, suc-le-suc_iff}
 
 abbrev pub on_first : {R : Type 0} → (R → R) → ℕ → List R → List R
 on_first f zero ys = ys
@@ -60,10 +61,10 @@ seek_in hit (suc m) [] = 0
 seek_in hit (suc m) (y ∷ ys) = cond (hit y) 0 (suc (seek_in hit m ys))
 
 zero_not_suc : {k : ℕ} → 0 ≡ suc k → ⊥
-zero_not_suc {k} e = omega (arith, e)
+zero_not_suc {k} e = suc-ne-zero k (sym e)
 
 suc_injective : {a b : ℕ} → suc a ≡ suc b → a ≡ b
-suc_injective {a} {b} e = omega (arith, e)
+suc_injective {a} {b} e = ap pred e
 
 module _ {R : Type 0} (hit : R → Bool) where
   -- none of the first suc i hits: so not the first, nor any of the next i
@@ -149,5 +150,5 @@ pub filled_alike : {R : Type 0} (f g : ℕ → R) (n : ℕ) (ys : List R) → ((
     → filled f n ys ≡ filled g n ys
 filled_alike f g zero ys h = refl
 filled_alike f g (suc n) [] h = refl
-filled_alike f g (suc n) (y ∷ ys) h = λ j. h 0 (omega arith) j ∷
-    filled_alike (λ i. f (suc i)) (λ i. g (suc i)) n ys (λ i k. h (suc i) (omega (arith, k))) j
+filled_alike f g (suc n) (y ∷ ys) h = λ j. h 0 (zero-lt-suc n) j ∷
+    filled_alike (λ i. f (suc i)) (λ i. g (suc i)) n ys (λ i k. h (suc i) (suc-le-suc_iff.1 k)) j

@@ -1,2 +1,3 @@
-// Laws for functions over a slice of records that a caller lends, for any record of plain data. There is no function
-// here: the laws are in proofs/, and the crates that lend records cite them.
+// Laws for functions over a slice of records that a caller lends, for any record. There is no function here: the words
+// and their laws are in specs/, and the crates that lend records cite them.
+#![tactic(auto)]
