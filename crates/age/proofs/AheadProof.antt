@@ -32,7 +32,7 @@ use Rattle.runs.specs.Steps.{deliver, call_in}
 use Rattle.runs.specs.Bus.{is_of, is_frame_of}
 use Rattle.runs.proofs.Tables.{place_like}
 use Rattle.runs.proofs.Idle.{call_timely}
-use Rattle.age.specs.Runs.{Sent, sent_at, last_of, called, Run, lent_at, after_event}
+use Rattle.age.specs.Runs.{Sent, sent_at, last_of, called, Run, lent_at}
 use Rattle.age.specs.Demand.{settings_in, run_of, NeverAhead}
 use Rattle.age.proofs.Handed.{last_moment, may_too}
 use Rattle.age.proofs.Lift.{link_of, end_of, may_deliver_law, still, counts, allowed_first, first_link, paired, lifted}

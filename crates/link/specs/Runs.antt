@@ -1,6 +1,6 @@
 -- Two endpoints of one CID over a list of calls (document 01, "What demand 3 runs over") and loadings of the slave
 -- (document 02, note 8), with clocks that drift (note 9), and with frames as fields and bodies.
-use Rattle.std.specs.Prelude.{Bool, true, false, ◌&&◌, ◌||◌, not, cond, List, [], ◌∷◌, ◌++◌, ℕ, suc, ◌+◌, ◌-◌, ◌%◌, eqb, leb, length, get_or}
+use Rattle.std.specs.Prelude.{Bool, true, false, ◌&&◌, ◌||◌, not, cond, List, [], ◌∷◌, ◌++◌, ℕ, suc, ◌-◌, ◌%◌, eqb, leb, length, get_or}
 use Rattle.std.specs.Bool.{beq}
 use Rattle.std.proofs.Math.Option.{Option, some, none}
 use Rattle.frame.specs.declared.Command.TheVariants as K

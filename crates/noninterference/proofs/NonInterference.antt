@@ -56,7 +56,7 @@ use Rattle.noninterference.specs.NonInterference.{ExchangedResult, ExchangedRuns
 use Rattle.noninterference.proofs.Records.{alike, Bodies, readable_too}
 use Rattle.noninterference.proofs.Connection.{held_with, Both, written_both, count_both, acts_both}
 use Rattle.noninterference.proofs.Connection.{sends_both, delivers_both}
-use Rattle.noninterference.proofs.Tables.{record_of, placed_both, endpoint_both, expired_same, shorter_same}
+use Rattle.noninterference.proofs.Tables.{record_of_law, placed_both, endpoint_both, expired_same, shorter_same}
 use Rattle.noninterference.proofs.Tables.{reading_same, place_same, step_both, clock_both, filled_both}
 
 module _ (P : ErrorRecord → ErrorRecord) (one : OneToOne P) where
@@ -102,7 +102,7 @@ module _ (P : ErrorRecord → ErrorRecord) (one : OneToOne P) where
       count = count_both P one c B.writes;
       writes = written_both P one c (endpoint_at d n) r B.writes;
       lent = placed_both P _ _ (step_both P d d' D t) n (record_of o.endpoint) (record_of o'.endpoint)
-          (record_of P o.endpoint o'.endpoint B.left);
+          (record_of_law P o.endpoint o'.endpoint B.left);
     }
 
     entry_both : (does does' : Endpoint → Outcome) (absent : Reason) (short : Bool) (n : ℕ)
@@ -262,7 +262,7 @@ module _ (P : ErrorRecord → ErrorRecord) where
   fresh_both : (number : ℕ) (ws : List ℕ) (i : ℕ) → ExchangedRecord P (fresh_at number ws i) (fresh_at number ws i)
   fresh_both number ws i =
       let e = fresh_of (settings_at ws i) number in
-      record_of P e e (record {
+      record_of_law P e e (record {
         same = refl;
         errorinfo = λ q. absurd (false≢true (sym (and-false (not e.settings.slave)) ∙ q));
       })

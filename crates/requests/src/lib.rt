@@ -1,1 +1,2 @@
 // The count of a start's requests: definitions and the theorem, no code.
+#![tactic(auto)]

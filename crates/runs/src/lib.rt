@@ -1,1 +1,2 @@
 // Lists of steps on gateways: definitions and laws, no code.
+#![tactic(auto)]
