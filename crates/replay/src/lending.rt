@@ -1,12 +1,12 @@
-// The calls with the first n records lent, all of them by value in and out. Each is an instance of a law of the crate
-// lent, whose shape it has: no function elsewhere has a reference to a record.
+// The calls with the first n records lent, all of them by value in and out: no function elsewhere has a reference to a
+// record.
 ghost use Rattle.std.specs.Prelude.{◌≤◌};
 
 use gateway::{Call, Called};
 use records::Record;
 
 // What a call leaves of all records, and what it answers.
-#[derive(Drop)]
+#[derive(Clone, Copy)]
 pub(crate) struct Answered {
     pub(crate) records: [Record; 70],
     pub(crate) called: Called,

@@ -1,29 +1,30 @@
 // Replays a list of calls on one gateway: each line of standard input is a call, each line of standard output its
 // answer.
+#![tactic(auto)]
 
 mod lending;
 
 ghost use Rattle.std.specs.Prelude.{◌≡◌, ◌≤◌, length};
-ghost use Rattle.io.specs.Counts.{IsPrefixLen};
+ghost use Rattle.replay.specs.Counts.{IsPrefixLen};
 
 use endpoint::Age;
 use gateway::{Call, Called, Gateway};
 use lending::Answered;
-use libc::{STDIN_FILENO, STDOUT_FILENO};
 use records::{Record, Stored};
+use std::io;
+use std::io::{Read, Stdin};
 use text::lines::{Input, first_input, front, refilled, take_line};
 use text::{Act, Kind, Line, Parameter};
 
-// The records and the gateway; how many of the records, and how long an output, calls are lent; the session number that
-// loads and restarts are handed; and whether to go on.
-#[derive(Drop)]
+// The records and the gateway; how many of the records, and how long an output, calls are lent; and the session number
+// that loads and restarts are handed.
+#[derive(Clone, Copy)]
 struct Replay {
     records: [Record; 70],
     gateway: Gateway,
     lent: usize,
     room: usize,
     session: u16,
-    going: bool,
 }
 
 // As many of the bytes as there are.
@@ -118,14 +119,14 @@ fn text_age(aged: u8, age: u64) -> Age {
     Age::Ticks(age)
 }
 
-fn print(text: &[u8], n: usize) -> bool {
+fn print(rt: &impl Print, text: &[u8], n: usize) -> io::Result<()> {
     let k = within(n, text);
-    io::write_all(STDOUT_FILENO, &text[..k])
+    rt.write_all(&text[..k])
 }
 
 // Writes the answer to a call that was lent out.
-fn print_answer(called: Called, out: &[u8]) -> bool {
-    let mut text = io::buffer();
+fn print_answer(rt: &impl Print, called: Called, out: &[u8]) -> io::Result<()> {
+    let mut text = [0u8; 4096];
     let n = within(called.count, out);
     let dirty = !text::answer::is_clean(out, n);
     let k = text::answer::put_answer(
@@ -138,30 +139,24 @@ fn print_answer(called: Called, out: &[u8]) -> bool {
         dirty,
         &out[..n],
     );
-    print(&text, k)
-}
-
-fn with_going(r: Replay, going: bool) -> Replay {
-    let mut next = r;
-    next.going = going;
-    next
+    print(rt, &text, k)
 }
 
 // ---- lines
 
 // The state after a call that was lent out.
-fn after(r: Replay, answered: Answered, out: &[u8]) -> Replay {
+fn after(rt: &impl Print, r: Replay, answered: Answered, out: &[u8]) -> io::Result<Replay> {
     let called = answered.called;
+    print_answer(rt, called, out)?;
     let gateway = called.gateway;
     let records = answered.records;
-    Replay {
+    Ok(Replay {
         records: records,
         gateway: gateway,
         lent: r.lent,
         room: r.room,
         session: r.session,
-        going: print_answer(called, out),
-    }
+    })
 }
 
 fn call_at(gateway: Gateway, clock: u64, entry: usize) -> Call {
@@ -193,174 +188,217 @@ fn with_word(c: Call, word: u32) -> Call {
     next
 }
 
-fn start(r: Replay, c: Call, out: &[u8]) -> Replay {
+fn start(rt: &impl Print, r: Replay, c: Call, out: &[u8]) -> io::Result<Replay> {
     let records = r.records;
     let answered = lending::start(records, records_within(r.lent), c);
-    after(r, answered, out)
+    after(rt, r, answered, out)
 }
 
-fn restart(r: Replay, c: Call, out: &[u8]) -> Replay {
+fn restart(rt: &impl Print, r: Replay, c: Call, out: &[u8]) -> io::Result<Replay> {
     let records = r.records;
     let handed = with_session(c, r.session);
     let answered = lending::restart(records, records_within(r.lent), handed);
-    after(r, answered, out)
+    after(rt, r, answered, out)
 }
 
-fn set_not_ready(r: Replay, c: Call, out: &[u8]) -> Replay {
+fn set_not_ready(rt: &impl Print, r: Replay, c: Call, out: &[u8]) -> io::Result<Replay> {
     let records = r.records;
     let answered = lending::set_not_ready(records, records_within(r.lent), c);
-    after(r, answered, out)
+    after(rt, r, answered, out)
 }
 
-fn clear_result(r: Replay, c: Call, out: &[u8]) -> Replay {
+fn clear_result(rt: &impl Print, r: Replay, c: Call, out: &[u8]) -> io::Result<Replay> {
     let records = r.records;
     let answered = lending::clear_result(records, records_within(r.lent), c);
-    after(r, answered, out)
+    after(rt, r, answered, out)
 }
 
-fn clear_record(r: Replay, c: Call, out: &[u8]) -> Replay {
+fn clear_record(rt: &impl Print, r: Replay, c: Call, out: &[u8]) -> io::Result<Replay> {
     let records = r.records;
     let answered = lending::clear_record(records, records_within(r.lent), c);
-    after(r, answered, out)
+    after(rt, r, answered, out)
 }
 
-fn read_error(r: Replay, c: Call, out: &[u8]) -> Replay {
+fn read_error(rt: &impl Print, r: Replay, c: Call, out: &[u8]) -> io::Result<Replay> {
     let records = r.records;
     let answered = lending::read_error(records, records_within(r.lent), c);
-    after(r, answered, out)
+    after(rt, r, answered, out)
 }
 
-fn stop(r: Replay, c: Call, out: &mut [u8]) -> Replay {
+fn stop(rt: &impl Print, r: Replay, c: Call, out: &mut [u8]) -> io::Result<Replay> {
     let records = r.records;
     let answered = lending::stop(records, records_within(r.lent), c, out);
-    after(r, answered, out)
+    after(rt, r, answered, out)
 }
 
-fn show(r: Replay, c: Call, out: &mut [u8]) -> Replay {
+fn show(rt: &impl Print, r: Replay, c: Call, out: &mut [u8]) -> io::Result<Replay> {
     let records = r.records;
     let answered = lending::show(records, records_within(r.lent), c, out);
-    after(r, answered, out)
+    after(rt, r, answered, out)
 }
 
 // A call that has a clock reading and an entry alone.
-fn act_on(r: Replay, act: Act, clock: u64, entry: usize, out: &mut [u8]) -> Replay {
+fn act_on(
+    rt: &impl Print,
+    r: Replay,
+    act: Act,
+    clock: u64,
+    entry: usize,
+    out: &mut [u8],
+) -> io::Result<Replay> {
     let gateway = r.gateway;
     let c = call_at(gateway, clock, entry);
     match act {
-        Act::Start => start(r, c, out),
-        Act::Stop => stop(r, c, out),
-        Act::Restart => restart(r, c, out),
-        Act::Show => show(r, c, out),
-        Act::NotReady => set_not_ready(r, with_not_ready(c), out),
-        Act::Ready => set_not_ready(r, c, out),
-        Act::NoResult => clear_result(r, c, out),
-        Act::NoRecord => clear_record(r, c, out),
-        Act::ReadError => read_error(r, c, out),
+        Act::Start => start(rt, r, c, out),
+        Act::Stop => stop(rt, r, c, out),
+        Act::Restart => restart(rt, r, c, out),
+        Act::Show => show(rt, r, c, out),
+        Act::NotReady => set_not_ready(rt, r, with_not_ready(c), out),
+        Act::Ready => set_not_ready(rt, r, c, out),
+        Act::NoResult => clear_result(rt, r, c, out),
+        Act::NoRecord => clear_record(rt, r, c, out),
+        Act::ReadError => read_error(rt, r, c, out),
     }
 }
 
-fn send(r: Replay, c: Call, bytes: &[u8], out: &mut [u8]) -> Replay {
+fn send(rt: &impl Print, r: Replay, c: Call, bytes: &[u8], out: &mut [u8]) -> io::Result<Replay> {
     let records = r.records;
     let answered = lending::send(records, records_within(r.lent), c, bytes, out);
-    after(r, answered, out)
+    after(rt, r, answered, out)
 }
 
-fn set_result(r: Replay, c: Call, bytes: &[u8], out: &[u8]) -> Replay {
+fn set_result(rt: &impl Print, r: Replay, c: Call, bytes: &[u8], out: &[u8]) -> io::Result<Replay> {
     let records = r.records;
     let answered = lending::set_result(records, records_within(r.lent), c, bytes);
-    after(r, answered, out)
+    after(rt, r, answered, out)
 }
 
-fn set_record(r: Replay, c: Call, bytes: &[u8], out: &[u8]) -> Replay {
+fn set_record(rt: &impl Print, r: Replay, c: Call, bytes: &[u8], out: &[u8]) -> io::Result<Replay> {
     let records = r.records;
     let answered = lending::set_record(records, records_within(r.lent), c, bytes);
-    after(r, answered, out)
+    after(rt, r, answered, out)
 }
 
-fn write_error(r: Replay, c: Call, bytes: &[u8], out: &[u8]) -> Replay {
+fn write_error(
+    rt: &impl Print,
+    r: Replay,
+    c: Call,
+    bytes: &[u8],
+    out: &[u8],
+) -> io::Result<Replay> {
     let records = r.records;
     let answered = lending::write_error(records, records_within(r.lent), c, bytes);
-    after(r, answered, out)
+    after(rt, r, answered, out)
 }
 
-fn hand_bytes(r: Replay, kind: Kind, c: Call, bytes: &[u8], n: usize, out: &mut [u8]) -> Replay {
+fn hand_bytes(
+    rt: &impl Print,
+    r: Replay,
+    kind: Kind,
+    c: Call,
+    bytes: &[u8],
+    n: usize,
+    out: &mut [u8],
+) -> io::Result<Replay> {
     let k = within(n, bytes);
     let handed = &bytes[..k];
     match kind {
-        Kind::Value => send(r, c, handed, out),
-        Kind::Result => set_result(r, c, handed, out),
-        Kind::Record => set_record(r, c, handed, out),
-        Kind::WriteError => write_error(r, c, handed, out),
+        Kind::Value => send(rt, r, c, handed, out),
+        Kind::Result => set_result(rt, r, c, handed, out),
+        Kind::Record => set_record(rt, r, c, handed, out),
+        Kind::WriteError => write_error(rt, r, c, handed, out),
     }
 }
 
 // A call that bytes follow, beside a clock reading and an entry.
-fn hand(r: Replay, kind: Kind, c: Call, line: &[u8], start: usize, out: &mut [u8]) -> Replay {
-    let mut bytes = io::buffer();
+fn hand(
+    rt: &impl Print,
+    r: Replay,
+    kind: Kind,
+    c: Call,
+    line: &[u8],
+    start: usize,
+    out: &mut [u8],
+) -> io::Result<Replay> {
+    let mut bytes = [0u8; 4096];
     let n = text::hex::bytes_from(line, start, &mut bytes);
-    hand_bytes(r, kind, c, &bytes, n, out)
+    hand_bytes(rt, r, kind, c, &bytes, n, out)
 }
 
-fn invoke_bytes(r: Replay, c: Call, bytes: &[u8], n: usize) -> Replay {
+fn invoke_bytes(rt: &impl Print, r: Replay, c: Call, bytes: &[u8], n: usize) -> io::Result<Replay> {
     let records = r.records;
     let k = within(n, bytes);
     let answered = lending::invoke(records, records_within(r.lent), c, &bytes[..k]);
-    after(r, answered, &[])
+    after(rt, r, answered, &[])
 }
 
-fn invoke(r: Replay, c: Call, line: &[u8], start: usize) -> Replay {
-    let mut bytes = io::buffer();
+fn invoke(rt: &impl Print, r: Replay, c: Call, line: &[u8], start: usize) -> io::Result<Replay> {
+    let mut bytes = [0u8; 4096];
     let n = text::hex::bytes_from(line, start, &mut bytes);
-    invoke_bytes(r, c, &bytes, n)
+    invoke_bytes(rt, r, c, &bytes, n)
 }
 
-fn deliver_bytes(r: Replay, c: Call, bytes: &[u8], n: usize, out: &mut [u8]) -> Replay {
+fn deliver_bytes(
+    rt: &impl Print,
+    r: Replay,
+    c: Call,
+    bytes: &[u8],
+    n: usize,
+    out: &mut [u8],
+) -> io::Result<Replay> {
     let records = r.records;
     let k = within(n, bytes);
     let answered = lending::deliver(records, records_within(r.lent), c, &bytes[..k], out);
-    after(r, answered, out)
+    after(rt, r, answered, out)
 }
 
-fn deliver(r: Replay, clock: u64, line: &[u8], start: usize, out: &mut [u8]) -> Replay {
+fn deliver(
+    rt: &impl Print,
+    r: Replay,
+    clock: u64,
+    line: &[u8],
+    start: usize,
+    out: &mut [u8],
+) -> io::Result<Replay> {
     let gateway = r.gateway;
-    let mut bytes = io::buffer();
+    let mut bytes = [0u8; 4096];
     let n = text::hex::bytes_from(line, start, &mut bytes);
-    deliver_bytes(r, call_at(gateway, clock, 0), &bytes, n, out)
+    deliver_bytes(rt, r, call_at(gateway, clock, 0), &bytes, n, out)
 }
 
-fn load_words(r: Replay, c: Call, words: &[u32], n: usize) -> Replay {
+fn load_words(rt: &impl Print, r: Replay, c: Call, words: &[u32], n: usize) -> io::Result<Replay> {
     let records = r.records;
     let k = words_within(n, words);
     let answered = lending::load(records, records_within(r.lent), c, &words[..k]);
-    after(r, answered, &[])
+    after(rt, r, answered, &[])
 }
 
-fn load(r: Replay, line: &[u8]) -> Replay {
+fn load(rt: &impl Print, r: Replay, line: &[u8]) -> io::Result<Replay> {
     let gateway = r.gateway;
     let mut words = no_words();
     let n = text::hex::settings_in(line, &mut words);
     let c = with_session(call_at(gateway, 0, 0), r.session);
-    load_words(r, c, &words, n)
+    load_words(rt, r, c, &words, n)
 }
 
-fn check_bytes(bytes: &[u8], n: usize) -> bool {
+fn check_bytes(rt: &impl Print, bytes: &[u8], n: usize) -> io::Result<()> {
     let k = within(n, bytes);
     let number = frame::read::folderpink_check_frame(&bytes[..k]);
-    let mut text = io::buffer();
+    let mut text = [0u8; 4096];
     let m = text::answer::put_check(&mut text, number);
-    print(&text, m)
+    print(rt, &text, m)
 }
 
-fn check(line: &[u8], start: usize) -> bool {
-    let mut bytes = io::buffer();
+fn check(rt: &impl Print, line: &[u8], start: usize) -> io::Result<()> {
+    let mut bytes = [0u8; 4096];
     let n = text::hex::bytes_from(line, start, &mut bytes);
-    check_bytes(&bytes, n)
+    check_bytes(rt, &bytes, n)
 }
 
-fn wrong(place: u64) -> bool {
-    let mut text = io::buffer();
+fn wrong(rt: &impl Print, place: u64) -> io::Result<()> {
+    let mut text = [0u8; 4096];
     let n = text::answer::put_wrong(&mut text, place);
-    print(&text, n)
+    print(rt, &text, n)
 }
 
 // A session number has 16 bits; no line has a longer one.
@@ -385,18 +423,19 @@ fn set(r: Replay, parameter: Parameter, n: usize) -> Replay {
 }
 
 // The line at a place of the input, without its newline, with an output to lend.
-fn run(r: Replay, place: u64, line: &[u8], out: &mut [u8]) -> Replay {
+fn run(rt: &impl Print, r: Replay, place: u64, line: &[u8], out: &mut [u8]) -> io::Result<Replay> {
     let gateway = r.gateway;
     let parsed = text::parse::parse(line);
     match parsed {
-        Line::Load => load(r, line),
-        Line::Timed { act, clock, entry } => act_on(r, act, clock, entry as usize, out),
+        Line::Load => load(rt, r, line),
+        Line::Timed { act, clock, entry } => act_on(rt, r, act, clock, entry as usize, out),
         Line::Data {
             kind,
             clock,
             entry,
             start,
         } => hand(
+            rt,
             r,
             kind,
             call_at(gateway, clock, entry as usize),
@@ -410,52 +449,60 @@ fn run(r: Replay, place: u64, line: &[u8], out: &mut [u8]) -> Replay {
             word,
             start,
         } => invoke(
+            rt,
             r,
             with_word(call_at(gateway, clock, entry as usize), word),
             line,
             start,
         ),
-        Line::Deliver { clock, start } => deliver(r, clock, line, start, out),
-        Line::Check { start } => with_going(r, check(line, start)),
-        Line::Set { parameter, n } => set(r, parameter, n),
-        Line::Nothing => r,
-        Line::Wrong => with_going(r, wrong(place)),
+        Line::Deliver { clock, start } => deliver(rt, r, clock, line, start, out),
+        Line::Check { start } => {
+            check(rt, line, start)?;
+            Ok(r)
+        }
+        Line::Set { parameter, n } => Ok(set(r, parameter, n)),
+        Line::Nothing => Ok(r),
+        Line::Wrong => {
+            wrong(rt, place)?;
+            Ok(r)
+        }
     }
 }
 
-fn run_lent(r: Replay, place: u64, line: &[u8]) -> Replay {
+fn run_lent(rt: &impl Print, r: Replay, place: u64, line: &[u8]) -> io::Result<Replay> {
     let mut out = filled();
     let n = within(r.room, &out);
-    run(r, place, line, &mut out[..n])
+    run(rt, r, place, line, &mut out[..n])
 }
 
-// The line is run where it is whole. At the input's end there is nothing more to do.
-fn run_line(r: Replay, input: Input, line: &[u8]) -> Replay {
-    let mut next = r;
+// The line is run where it is whole.
+fn run_line(rt: &impl Print, r: Replay, input: Input, line: &[u8]) -> io::Result<Replay> {
     if input.whole {
-        next = run_lent(r, input.place, front(line, input.length));
+        return run_lent(rt, r, input.place, front(line, input.length));
     }
-    if input.ended {
-        next.going = false;
-    }
-    next
+    Ok(r)
 }
 
 // What is left of the buffer is taken up to the end of a line; where nothing is left, the buffer is filled.
-fn read_on(input: Input, buffer: &mut [u8], line: &mut [u8]) -> Input {
+fn read_on(
+    stdin: &mut Stdin,
+    input: Input,
+    buffer: &mut [u8],
+    line: &mut [u8],
+) -> io::Result<Input> {
     if input.from < input.to {
-        return take_line(input, buffer, line);
+        return Ok(take_line(input, buffer, line));
     }
-    let got = libc::read(STDIN_FILENO, buffer);
-    refilled(input, io::count(got, buffer))
+    let n = stdin.read(buffer)?;
+    Ok(refilled(input, n))
 }
 
-// A proved loop has to end, and nothing says that the input does: the turns count down from a number that no input
-// uses up.
-fn main() {
+// A proved loop has to end, and nothing says that the input does: the turns count up to a number that no input reaches.
+fn main(rt: HostRuntime) -> io::Result<()> {
+    let mut stdin = rt.stdin();
     // one byte more than the longest line, so that a longer one is seen
     let mut line = [0u8; 4097];
-    let mut buffer = io::buffer();
+    let mut buffer = [0u8; 4096];
     let mut input = first_input();
     let mut r = Replay {
         records: [blank(); 70],
@@ -463,12 +510,13 @@ fn main() {
         lent: 64,
         room: 248,
         session: 0,
-        going: true,
     };
-    let mut turns = u64::MAX;
-    while turns > 0 && r.going {
-        input = read_on(input, &mut buffer, &mut line);
-        r = run_line(r, input, &line);
-        turns -= 1;
+    for _ in 0..u64::MAX {
+        input = read_on(&mut stdin, input, &mut buffer, &mut line)?;
+        r = run_line(&rt, r, input, &line)?;
+        if input.ended {
+            break;
+        }
     }
+    Ok(())
 }

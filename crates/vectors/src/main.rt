@@ -1,38 +1,37 @@
 // Runs RFC 3720's vectors (appendix B.4) and document 01's cases that are not proved; what it writes is held to the
 // file stdout.
+#![tactic(auto)]
 
 mod readying;
 
 use frame::{Command, Fields, Subconnection};
-use libc::STDOUT_FILENO;
+use std::io;
 
 // A line: the name, and the check word of the bytes, top byte first.
-fn crc_line(name: &[u8], bytes: &[u8]) {
-    io::write_all(STDOUT_FILENO, name);
-    io::print_hex(STDOUT_FILENO, crc::crc32c(bytes) as u64, 8);
-    io::write_all(STDOUT_FILENO, b"\n");
+fn crc_line(rt: &impl Print, name: &str, bytes: &[u8]) -> io::Result<()> {
+    println!(rt; "{name}{:08x}", crc::crc32c(bytes))
 }
 
-fn crc_vectors() {
-    crc_line(b"crc of 32 bytes of zeroes: ", &[0u8; 32]);
-    crc_line(b"crc of 32 bytes of ones: ", &[255u8; 32]);
+fn crc_vectors(rt: &impl Print) -> io::Result<()> {
+    crc_line(rt, "crc of 32 bytes of zeroes: ", &[0u8; 32])?;
+    crc_line(rt, "crc of 32 bytes of ones: ", &[255u8; 32])?;
     let incrementing = [
         0u8, 1, 2, 3, 4, 5, 6, 7, 8, 9, 10, 11, 12, 13, 14, 15, 16, 17, 18, 19, 20, 21, 22, 23, 24,
         25, 26, 27, 28, 29, 30, 31,
     ];
-    crc_line(b"crc of 32 incrementing bytes: ", &incrementing);
+    crc_line(rt, "crc of 32 incrementing bytes: ", &incrementing)?;
     let decrementing = [
         31u8, 30, 29, 28, 27, 26, 25, 24, 23, 22, 21, 20, 19, 18, 17, 16, 15, 14, 13, 12, 11, 10,
         9, 8, 7, 6, 5, 4, 3, 2, 1, 0,
     ];
-    crc_line(b"crc of 32 decrementing bytes: ", &decrementing);
+    crc_line(rt, "crc of 32 decrementing bytes: ", &decrementing)?;
     let read10 = [
         0x01u8, 0xC0, 0x00, 0x00, 0x00, 0x00, 0x00, 0x00, 0x00, 0x00, 0x00, 0x00, 0x00, 0x00, 0x00,
         0x00, 0x14, 0x00, 0x00, 0x00, 0x00, 0x00, 0x04, 0x00, 0x00, 0x00, 0x00, 0x14, 0x00, 0x00,
         0x00, 0x18, 0x28, 0x00, 0x00, 0x00, 0x00, 0x00, 0x00, 0x00, 0x02, 0x00, 0x00, 0x00, 0x00,
         0x00, 0x00, 0x00,
     ];
-    crc_line(b"crc of an iSCSI SCSI Read (10) command PDU: ", &read10);
+    crc_line(rt, "crc of an iSCSI SCSI Read (10) command PDU: ", &read10)
 }
 
 // An S-Connect request of master 1/2 to slave 1/3, and an S-Refresh of that slave in session 7.
@@ -66,57 +65,50 @@ fn refresh() -> Fields {
     }
 }
 
-fn byte_line(name: &[u8], bytes: &[u8]) {
-    io::write_all(STDOUT_FILENO, name);
-    let mut i = 0;
-    while i < bytes.len() {
-        io::print_hex(STDOUT_FILENO, wide(bytes[i]), 2);
-        i += 1;
+fn byte_line(rt: &impl Print, name: &str, bytes: &[u8]) -> io::Result<()> {
+    print!(rt; "{name}")?;
+    for b in bytes {
+        print!(rt; "{b:02x}")?;
     }
-    io::write_all(STDOUT_FILENO, b"\n");
+    println!(rt)
 }
 
 // A line: the name, and the first n bytes of an output.
-fn written_line(name: &[u8], out: &[u8], n: usize) {
+fn written_line(rt: &impl Print, name: &str, out: &[u8], n: usize) -> io::Result<()> {
     if n <= out.len() {
-        byte_line(name, &out[0..n]);
+        byte_line(rt, name, &out[0..n])?;
     }
-}
-
-fn wide(b: u8) -> u64 {
-    b as u64
+    Ok(())
 }
 
 // A line: the name, and what the frame check says of the first n bytes of an output.
-fn check_line(name: &[u8], out: &[u8], n: usize) {
-    io::write_all(STDOUT_FILENO, name);
+fn check_line(rt: &impl Print, name: &str, out: &[u8], n: usize) -> io::Result<()> {
+    print!(rt; "{name}")?;
     if n <= out.len() {
-        io::print_decimal(
-            STDOUT_FILENO,
-            frame::read::folderpink_check_frame(&out[0..n]) as u64,
-        );
+        print!(rt; "{}", frame::read::folderpink_check_frame(&out[0..n]))?;
     }
-    io::write_all(STDOUT_FILENO, b"\n");
+    println!(rt)
 }
 
-fn main() {
-    crc_vectors();
+fn main(rt: HostRuntime) -> io::Result<()> {
+    crc_vectors(&rt)?;
     let mut out = [0u8; 256];
     let n = frame::write::write_frame(connect(), &[0, 0, 0, 1], &mut out);
-    written_line(b"S-Connect request: ", &out, n);
-    check_line(b"check of 56 bytes: ", &out, 56);
-    check_line(b"check of 48 bytes: ", &out, 48);
-    check_line(b"check of 60 bytes: ", &out, 60);
+    written_line(&rt, "S-Connect request: ", &out, n)?;
+    check_line(&rt, "check of 56 bytes: ", &out, 56)?;
+    check_line(&rt, "check of 48 bytes: ", &out, 48)?;
+    check_line(&rt, "check of 60 bytes: ", &out, 60)?;
     let value = [0xA5u8; 100];
     let n = frame::write::write_frame(refresh(), &value, &mut out);
-    written_line(b"S-Refresh of a slave in session 7: ", &out, n);
-    check_line(b"check of 248 bytes: ", &out, 248);
-    check_line(b"check of 256 bytes: ", &out, 256);
-    check_line(b"check of 0 bytes: ", &out, 0);
+    written_line(&rt, "S-Refresh of a slave in session 7: ", &out, n)?;
+    check_line(&rt, "check of 248 bytes: ", &out, 248)?;
+    check_line(&rt, "check of 256 bytes: ", &out, 256)?;
+    check_line(&rt, "check of 0 bytes: ", &out, 0)?;
     readying::readying(&mut out);
     written_line(
-        b"S-RefreshGO at 1,040, T code 1,040, OBL 10 and Sub CID 7: ",
+        &rt,
+        "S-RefreshGO at 1,040, T code 1,040, OBL 10 and Sub CID 7: ",
         &out,
         56,
-    );
+    )
 }

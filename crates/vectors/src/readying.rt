@@ -4,7 +4,7 @@ use endpoint::{Answer, Core, Reason};
 use frame::Reading;
 use steps::Stepped;
 
-#[derive(Drop)]
+#[derive(Clone, Copy)]
 pub(crate) struct Pair {
     pub master: Core,
     pub slave: Core,

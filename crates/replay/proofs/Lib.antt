@@ -1,2 +1,0 @@
--- The types of the calls, as the laws of `lent` take them.
-pub mod Types
