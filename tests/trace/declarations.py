@@ -6,7 +6,7 @@ from collections import namedtuple
 Declaration = namedtuple('Declaration', 'name line whole')
 
 ANTT = re.compile(r'( *)(?:(?:pub|abbrev|unfoldable) )*(?:(?:record|data) ([^\s:]+)|(?!let )([^\s:(){}]+) :(?= |$))')
-ITEM = re.compile(r'(?:#\[\w+\])?(?:pub(?:\(crate\))? )?(?:extern "C" )?(fn|struct|enum|const) (\w+)')
+ITEM = re.compile(r'(?:pub(?:\(crate\))? )?(?:extern "C" )?(fn|struct|enum|const) (\w+)')
 MODULE = re.compile(r'module _ ')
 PART = {'struct': re.compile(r' +pub (\w+):'), 'enum': re.compile(r'    ([A-Z]\w*)(?=[,({ ])')}
 
