@@ -2,8 +2,8 @@
  * The FSCP 8/2 safety link, for C and C++ on x86-64: a gateway of 1 to 64 connections, and the
  * frame check alone.
  *
- * Link with libgateway.a (rt staticlib gateway), for folderpink_check_frame also with libframe.a
- * (rt staticlib frame). They need memcpy and memset, and nothing else: no call at start-up, no
+ * Link with libgateway.a, for folderpink_check_frame also with libframe.a (tests/host/run archives
+ * builds both). They need memcpy, memmove and memset, and nothing else: no call at start-up, no
  * heap, no input or output. A call always returns and keeps nothing between calls: all that a
  * gateway remembers is in the records and in the struct folderpink_call that the caller holds. So
  * two gateways may be called at the same time from two threads.
@@ -63,9 +63,10 @@ extern "C" {
 #define FOLDERPINK_CLOCK_MAX UINT64_C(281474976579583)
 
 /*
- * The bytes of stack that a call may use, its arguments and memcpy included, but not what a
- * dynamic linker uses where it binds memcpy at its first call. Measured, not proved: the host
- * tests make every call of their lists on a painted stack, and hold what was overwritten to this.
+ * The bytes of stack that a call may use, its arguments, memcpy, memmove and memset included, but
+ * not what a dynamic linker uses where it binds these at their first call. Measured, not proved: the
+ * host tests make every call of their lists on a painted stack, and hold what was overwritten to
+ * this.
  */
 #define FOLDERPINK_STACK 2048
 
