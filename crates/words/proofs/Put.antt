@@ -6,7 +6,7 @@ use native.Mathlib.Nat.{add_assoc, zero-add, le_refl}
 use native.Mathlib.Numerals.{add-one, add-two, add-three}
 use native.Mathlib.Omega.{arith}
 use lib.ListN.{length, take, drop, set, length-append, length-drop, drop_of_length-le}
-use lib.Seq.{sets-eq, take-length, length-take-le, take_at, drop-drop, drop-append-add}
+use lib.Seq.{sets-eq, length-take-le, take_at, drop-drop, drop-append-add}
 use borrow.Author.Tests.{le-leb, lt-leb}
 use Rattle.words.specs.Output.{put, put_whole, count_within, over}
 use Rattle.words.proofs.Parts.{tail}
@@ -38,22 +38,13 @@ pub fits_count : (bytes o : List ℕ) → length bytes ≤ length o → count_wi
 fits_count bytes o h = rw (le-leb (length bytes) (length o) h)
 
 -- what a copy of s over the front of `&mut o[k..]` leaves there, back in its place
-pub put_tail_law : (o : List ℕ) (k : ℕ) (s : List ℕ) {t : List ℕ}
-    → t ≡ take (length s) s ++ drop (length s) (take (length o - k) (drop k o))
-    → take k o ++ (t ++ drop (length o - k) (drop k o)) ≡ put o k s
-unfolding put
-put_tail_law o k s e =
-    let r : drop (length o - k) (drop k o) ≡ [] = drop_of_length-le (drop k o) {i = length o - k} (rw length-drop (le_refl _)) in
-    rw (e, r, take-length, tail, append-nil, drop-drop, append_assoc)
-
--- the same of what `copy` says
 pub put_tail_over : (o : List ℕ) (k : ℕ) (s : List ℕ) {t : List ℕ}
     → t ≡ over s (take (length o - k) (drop k o))
     → take k o ++ (t ++ drop (length o - k) (drop k o)) ≡ put o k s
-unfolding over
+unfolding put over
 put_tail_over o k s e =
-    put_tail_law o k s
-    (e ∙ ap (λ (l : List ℕ). l ++ drop (length s) (take (length o - k) (drop k o))) (sym (take-length s)))
+    let r : drop (length o - k) (drop k o) ≡ [] = drop_of_length-le (drop k o) {i = length o - k} (rw length-drop (le_refl _)) in
+    rw (e, r, tail, append-nil, drop-drop, append_assoc)
 
 -- ---- one after the other
 put_put : (o : List ℕ) (k : ℕ) (a b : List ℕ) (m : ℕ) → m ≡ k + length a → m ≤ length o

@@ -1,5 +1,5 @@
 -- `words::copy` meets its contract: all of src over the front of dst, or nothing.
-use Rattle.std.proofs.Common.{arith, sym, ap, ◌≡◌, ◌∙◌, List, ℕ, ◌++◌, length, drop}
+use Rattle.std.proofs.Common.{arith, sym, ap, ◌∙◌, List, ℕ, ◌++◌, length, drop}
 use Rattle.words.specs.Output.{over}
 use Rattle.words.proofs.Put.{nothing, fits}
 use Rattle.words.proofs.copy.Goals as goal
