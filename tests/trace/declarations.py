@@ -6,7 +6,9 @@ from collections import namedtuple
 Declaration = namedtuple('Declaration', 'name line whole')
 
 ANTT = re.compile(r'( *)(?:(?:pub|abbrev|unfoldable) )*(?:(?:record|data) ([^\s:]+)|(?!let )([^\s:(){}]+) :(?= |$))')
-ITEM = re.compile(r'(?:pub(?:\(crate\))? )?(?:extern "C" )?(fn|struct|enum|const) (\w+)')
+# At the margin, or a method's or a constant's in a block of impl; and a trait's block, by its words.
+ITEM = re.compile(r'(?:    )?(?:pub(?:\(crate\))? )?(?:extern "C" )?(fn|struct|enum|const|static|type) (\w+)')
+TRAIT = re.compile(r'impl(?:<[^{]*?>)? (\w+(?:<[^{]*>)? for [^{]*\w>?) \{$')
 MODULE = re.compile(r'module _ ')
 PART = {'struct': re.compile(r' +pub (\w+):'), 'enum': re.compile(r'    ([A-Z]\w*)(?=[,({ ])')}
 
@@ -24,14 +26,18 @@ def of_antt(lines):
             yield Declaration(name, i, whole)
 
 
-# Functions, types, constants, the fields of a struct, and the variants of an enum.
+# Functions and methods, types, constants, traits' blocks, the fields of a struct, and the variants of an enum.
 def of_rattle(lines):
     kind = whole = ''
     for i, line in enumerate(lines):
-        item = ITEM.match(line)
+        item = ITEM.match(line) if kind not in PART else None
+        trait = TRAIT.match(line)
         part = kind in PART and PART[kind].match(line)
         if item:
             kind, whole = item.groups()
+            yield Declaration(whole, i, whole)
+        elif trait:
+            kind, whole = 'impl', trait.group(1)
             yield Declaration(whole, i, whole)
         elif part:
             yield Declaration(part.group(1), i, whole)

@@ -1,5 +1,8 @@
 -- A frame that is refused as too far ahead, number 14, is very old: on the gateways as on the endpoints.
 use mathlib.Core.Path.{◌≡◌, refl, sym, ap, subst, ◌∙◌}
+use Rattle.std.specs.Prelude.{Err, Ok}
+use Rattle.frame.specs.Reading.{Reading}
+use Rattle.frame.specs.Reading.{frame_with}
 use mathlib.Core.Bool.{Bool, true, false, cond, false≢true}
 use mathlib.Core.List.{List, [], ◌∷◌}
 use Prim.Native.Nat.{ℕ, suc, ◌+◌, ◌-◌, ◌^◌, ◌<◌}
@@ -9,12 +12,10 @@ use lib.ListN.{length}
 use lib.Seq.{slice}
 use borrow.Author.Tests.{eqb-true, eq-eqb, ne_eqb}
 use Rattle.frame.specs.declared.Fields.{Fields}
-use Rattle.frame.specs.declared.Reading.{Reading}
-use Rattle.frame.specs.declared.Reading.TheVariants.{Frame, Refused}
 use Rattle.frame.specs.Reading.{reading_of}
 use Rattle.endpoint.specs.Endpoint.{Endpoint}
 use Rattle.endpoint.specs.declared.Reason.TheVariants as R
-use Rattle.endpoint.specs.declared.Answer.TheVariants.{Done, Dropped, Ended}
+use Rattle.endpoint.specs.declared.Refusal.TheVariants.{Dropped, Ended}
 use Rattle.endpoint.specs.Answers.{is_done, number_of}
 use Rattle.endpoint.specs.Time.{is_expired}
 use Rattle.steps.specs.Calls.{Outcome}
@@ -42,19 +43,19 @@ record FrameOf (cid : ℕ) (s : List ℕ) : Type 0 where
   fields : Fields
   from : ℕ
   to : ℕ
-  is : reading_of s ≡ Frame fields from to
+  is : reading_of s ≡ Ok (frame_with fields from to)
   has : fields.connection ≡ cid
 
 frame_in : (cid : ℕ) (s : List ℕ) → is_frame_of cid s ≡ true → FrameOf cid s
 frame_in cid s = go (reading_of s) refl
   where
     go : (r : Reading) → reading_of s ≡ r → is_of cid r ≡ true → FrameOf cid s
-    go (Frame f from to) q h =
-        record { fields = f; from = from; to = to; is = q; has = eqb-true f.connection cid h }
-    go (Refused fault) q h = absurd (false≢true h)
+    go (Ok read) q h =
+        record { fields = read.fields; from = read.start; to = read.end; is = q; has = eqb-true read.fields.connection cid h }
+    go (Err fault) q h = absurd (false≢true h)
 
 -- it is not of zero bytes
-arrives : (s : List ℕ) (f : Fields) (from to : ℕ) → reading_of s ≡ Frame f from to → eqb (length s) 0 ≡ false
+arrives : (s : List ℕ) (f : Fields) (from to : ℕ) → reading_of s ≡ Ok (frame_with f from to) → eqb (length s) 0 ≡ false
 unfolding reading_of
 arrives [] f from to h =
     absurd (false≢true (ap (is_of f.connection) h ∙ eq-eqb f.connection f.connection refl))
@@ -62,7 +63,7 @@ arrives (b ∷ s) f from to h = ne_eqb (suc (length s)) 0 (λ q. omega arith)
 
 -- number 14 is none of a gateway's own for a frame, 1, 2, 8 and 9
 not_before : (reading shorter short within over : Bool)
-    → number_of (admit reading shorter short (admit_entry within R.Unknown (cond over (Ended R.Expired) Done))) ≡ 14 → ⊥
+    → number_of (admit reading shorter short (admit_entry within R.Unknown (cond over (Err (Ended R.Expired)) (Ok tt)))) ≡ 14 → ⊥
 not_before false shorter short within over h = omega arith
 not_before true true short within over h = omega arith
 not_before true false true within over h = omega arith
@@ -71,7 +72,7 @@ not_before true false false true true h = omega arith
 not_before true false false true false h = omega arith
 
 -- so it is the connection's
-module _ (d : Lent) (t room : ℕ) (s : List ℕ) (f : Fields) (from to : ℕ) (is_frame_law : reading_of s ≡ Frame f from to)
+module _ (d : Lent) (t room : ℕ) (s : List ℕ) (f : Fields) (from to : ℕ) (is_frame_law : reading_of s ≡ Ok (frame_with f from to))
   where
     abbrev k : ℕ
     k = place_of f.connection d
@@ -81,9 +82,9 @@ module _ (d : Lent) (t room : ℕ) (s : List ℕ) (f : Fields) (from to : ℕ) (
 
     record Refuses : Type 0 where
       reading : is_reading d.gateway t ≡ true
-      answer : (S.call_of (endpoint_at d k) t by).answer ≡ Dropped R.Ahead
+      answer : (S.call_of (endpoint_at d k) t by).answer ≡ Err (Dropped R.Ahead)
 
-    refuses : (call_in d t room (deliver s)).answer ≡ Dropped R.Ahead → Refuses
+    refuses : (call_in d t room (deliver s)).answer ≡ Err (Dropped R.Ahead) → Refuses
     refuses h =
         let e = endpoint_at d k in
         let a = before_entry R.Unknown d t (is_short room) k in

@@ -1,5 +1,7 @@
 -- Every call on a gateway has its match on the endpoint of the CID.
 use mathlib.Core.Path.{◌≡◌, refl, sym, ap, ap₂, subst, ◌∙◌}
+use Rattle.std.specs.Prelude.{None, Ok, Option, Some, ℕ}
+use Rattle.frame.specs.Reading.{frame_with}
 use mathlib.Core.Bool.{Bool, true, false, ◌&&◌, not, cond}
 use mathlib.Core.List.{List, [], ◌∷◌, ◌++◌}
 use Prim.Native.Nat.{ℕ, suc, ◌<◌}
@@ -10,13 +12,11 @@ use lib.Seq.{slice}
 use borrow.Author.Tests.{eqb-true, eqb-false, eq-eqb, ne_eqb}
 use Rattle.frame.specs.declared.Command.TheVariants as K
 use Rattle.frame.specs.declared.Fields.{Fields}
-use Rattle.frame.specs.declared.Reading.TheVariants.{Frame}
 use Rattle.frame.specs.Control.{is}
 use Rattle.frame.specs.Reading.{reading_of}
 use Rattle.endpoint.specs.declared.Settings.{Settings}
 use Rattle.endpoint.specs.Endpoint.{Endpoint}
-use Rattle.endpoint.specs.declared.Age.TheVariants.{None, Ticks}
-use Rattle.endpoint.specs.declared.Answer.{Answer}
+use Rattle.endpoint.specs.Answers.{Answer}
 use Rattle.endpoint.specs.Answers.{is_done}
 use Rattle.endpoint.specs.Time.{is_expired, held_age, after_tick}
 use Rattle.steps.specs.Frames as W
@@ -27,7 +27,7 @@ use Rattle.steps.proofs.CallLaws.{step_laws}
 use Rattle.steps.proofs.Keeps.{bcase, Kept}
 use Rattle.records.specs.Records.{record_of}
 use Rattle.gateway.specs.Tables.{Lent, endpoint_at, place_of, is_reading, clock_step, after_clock}
-use Rattle.gateway.specs.Calls.{Entry, Result, result, acted_of, shown_in, ticks_in}
+use Rattle.gateway.specs.Calls.{Result, result, acted_of, shown_in, ticks_in}
 use Rattle.link.specs.Runs as L
 use Rattle.runs.specs.Steps.{Call, act, send, deliver, show, call_in}
 use Rattle.runs.specs.Bus.{on_bus, is_refresh_in, is_frame_of, is_refresh_of}
@@ -67,7 +67,7 @@ show_call slave m loads e t =
 
 -- a value is shown with its age
 flip : (b : Bool) (x : ℕ → L.Show) (age : ℕ)
-    → cond {A = List L.Show} (not b) (x (ticks_in (cond b None (Ticks age))) ∷ []) [] ≡ cond b [] (x age ∷ [])
+    → cond {A = List L.Show} (not b) (x (ticks_in (cond b None (Some age))) ∷ []) [] ≡ cond b [] (x age ∷ [])
 flip true x age = refl
 flip false x age = refl
 
@@ -123,7 +123,7 @@ module _ (cid : ℕ) (slave : Bool) (m loads : ℕ) (given : List L.Grant) (numb
     gives_refused (deliver s) = refl
     gives_refused (show k) = refl
 
-    nowhere : {c : Call} (a : Answer) (x : Entry) → A.Still c a
+    nowhere : {c : Call} (a : Answer) (x : Option ℕ) → A.Still c a
         → call_in d t room c ≡ result a x W.nothing (after_clock t d) → Match c
     nowhere {c = c} a x s q =
         only_clock cid slave m loads given d n t room log took c whole counted
@@ -191,7 +191,7 @@ module _ (cid : ℕ) (slave : Bool) (m loads : ℕ) (given : List L.Grant) (numb
         }
 
     -- ---- a frame for the connection at k
-    module _ (s : List ℕ) (f : Fields) (from to k : ℕ) (is_frame_law : reading_of s ≡ Frame f from to)
+    module _ (s : List ℕ) (f : Fields) (from to k : ℕ) (is_frame_law : reading_of s ≡ Ok (frame_with f from to))
         (h : place_of f.connection d ≡ k) where
       -- the entry's CID is the frame's
       its_frame : k ≡ n → f.connection ≡ cid

@@ -4,6 +4,7 @@
 -- slave's clock has gained two ticks its offset is measured anew; the line refreshes both ways, and shows both values.
 -- All of it is computed.
 use mathlib.Core.Path.{◌≡◌, refl, ap}
+use Rattle.std.specs.Prelude.{None, Some}
 use mathlib.Core.Bool.{Bool, true, false, cond}
 use mathlib.Core.List.{List, [], ◌∷◌, ◌++◌}
 use Prim.Native.Nat.{ℕ, ◌+◌}
@@ -11,7 +12,6 @@ use lib.ListN.{replicate}
 use Rattle.crc.specs.Crc.{bit_step, bit_steps, byte_step, crc_from, crc}
 use Rattle.frame.specs.declared.Command.{Command}
 use Rattle.frame.specs.declared.Command.TheVariants as K
-use Rattle.frame.specs.declared.Subconnection.TheVariants.{Absent, Number}
 use Rattle.frame.specs.Control.{is, control_of, has_form}
 use Rattle.frame.specs.Reading.{has_check_word, fields_in, reading_of_copies, reading_of}
 use Rattle.frame.specs.Writing.{head_bytes, with_check_word, twice, sub_bytes, frame_bytes, is_writable}
@@ -76,7 +76,7 @@ data_of_law k = setup_data (settings false) k
 -- what a master with the session number n writes; an S-Connect request carries none
 request : ℕ → Bool → ℕ → Command → ℕ → List ℕ → List ℕ
 request n sequence t k baseline body =
-    frame_bytes (sent_fields k sequence false (cond (is k K.Connect) Absent (Number n)) cid t baseline) body
+    frame_bytes (sent_fields k sequence false (cond (is k K.Connect) None (Some n)) cid t baseline) body
 
 -- with the session number n, and the slave's clock so far ahead
 module _ (n ahead : ℕ) where
@@ -85,7 +85,7 @@ module _ (n ahead : ℕ) where
   answered busy sequence t k baseline body reply =
       at_master_law t (send 0 [])
       ∷ at_slave ahead (1 + t) (deliver (request n sequence t k baseline body))
-      ∷ at_master_law (2 + t) (deliver (frame_bytes (ack_fields k busy false sequence (Number n) cid t) reply)) ∷ []
+      ∷ at_master_law (2 + t) (deliver (frame_bytes (ack_fields k busy false sequence (Some n) cid t) reply)) ∷ []
 
   -- a request of setup or of a measurement, whose reply repeats its data
   repeated : (busy sequence : Bool) → ℕ → Command → ℕ → List Event
@@ -150,7 +150,7 @@ line =
     ∷ at_slave 1002 10000 (show 1)
     -- the slave reckons the master's time a tick high, which is what the reply to S-RefreshMO took
     ∷ at_master_law 10082
-    (deliver (frame_bytes (sent_fields K.Refresh false true (Number 8) cid 10082 0) (5 ∷ 6 ∷ 7 ∷ 8 ∷ [])))
+    (deliver (frame_bytes (sent_fields K.Refresh false true (Some 8) cid 10082 0) (5 ∷ 6 ∷ 7 ∷ 8 ∷ [])))
     ∷ at_master_law 10090 (show 0) ∷ []))))))))))))
 
 run : Run

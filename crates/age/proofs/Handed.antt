@@ -1,5 +1,7 @@
 -- A frame of the CID that is handed over: it was written, and its last place in the log is that of its fields and body.
 use mathlib.Core.Path.{◌≡◌, sym, ap, ap₂, ◌∙◌}
+use Rattle.std.specs.Prelude.{Ok}
+use Rattle.frame.specs.Reading.{frame_with}
 use mathlib.Core.Bool.{Bool, true, ◌&&◌, ◌||◌, not}
 use mathlib.Core.List.{List}
 use Prim.Native.Nat.{ℕ, ◌-◌, ◌≤◌}
@@ -8,7 +10,6 @@ use lib.Seq.{slice}
 use borrow.Author.Tests.{leb-true, eq-eqb}
 use mathlib.Mathlib.Data.Bool.Basic.{and_elim_left as and_left, and_elim_right as and_right, and_intro as both}
 use Rattle.frame.specs.declared.Fields.{Fields}
-use Rattle.frame.specs.declared.Reading.TheVariants.{Frame}
 use Rattle.frame.specs.Reading.{reading_of}
 use Rattle.steps.specs.Steps as S
 use Rattle.link.specs.Runs as L
@@ -18,7 +19,7 @@ use Rattle.age.specs.Runs.{sent_at, last_of, travels, may_deliver}
 use Rattle.age.proofs.Logs.{to_log, when_at, AllGood, last_of_law, WritingOf, writing_of}
 
 module _ (cid : ℕ) (given : List L.Grant) (log : List L.Sent) (good : AllGood cid log) (s : List ℕ) (f : Fields)
-    (from to : ℕ) (is_frame_law : reading_of s ≡ Frame f from to) (has : f.connection ≡ cid)
+    (from to : ℕ) (is_frame_law : reading_of s ≡ Ok (frame_with f from to)) (has : f.connection ≡ cid)
     (may : may_deliver cid given (to_log log) (deliver s) ≡ true) where
   may_own : (leb 1 (last_of s (to_log log)) && travels given s (to_log log)) ≡ true
   may_own =

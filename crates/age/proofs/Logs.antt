@@ -1,5 +1,7 @@
 -- The log of frames as bytes, and as fields and bodies: the same frames at the same places.
 use mathlib.Core.Path.{◌≡◌, refl, sym, ap, ap₂, subst, ◌∙◌}
+use Rattle.std.specs.Prelude.{Ok}
+use Rattle.frame.specs.Reading.{frame_with}
 use mathlib.Core.Bool.{Bool, true, false, ◌&&◌, cond, beq}
 use mathlib.Core.List.{List, [], ◌∷◌, ◌++◌, map}
 use Prim.Native.Nat.{ℕ, zero, suc, ◌+◌, ◌≤◌, ◌<◌}
@@ -10,7 +12,6 @@ use lib.Seq.{slice}
 use borrow.Author.Tests.{eq-eqb}
 use Rattle.frame.specs.declared.Command.TheVariants as K
 use Rattle.frame.specs.declared.Fields.{Fields}
-use Rattle.frame.specs.declared.Reading.TheVariants.{Frame}
 use Rattle.frame.specs.Control.{code_of, is, subconnection_bits}
 use Rattle.words.specs.Bytes.{same}
 use Rattle.frame.specs.Reading.{reading_of}
@@ -159,16 +160,17 @@ origin cid n s (x ∷ l) (and_more g a) h =
     (subst (λ (b : Bool). 1 ≤ last_from (suc n) s (to_log l) (cond b (suc n) 0)) q h))
 
 pub writing_of : (cid : ℕ) (s : List ℕ) (l : List L.Sent) → AllGood cid l → 1 ≤ last_of s (to_log l)
-    → (f : Fields) (from to : ℕ) → reading_of s ≡ Frame f from to → WritingOf s f (slice from to s)
+    → (f : Fields) (from to : ℕ) → reading_of s ≡ Ok (frame_with f from to) → WritingOf s f (slice from to s)
 unfolding last_of
 writing_of cid s l a h f from to is_frame_law =
     let o = origin cid 0 s l a h in
     let w = o.writing in
     let back = round_trip.there o.fields o.body w.readable in
-    let q : Frame o.fields 20 (20 + length o.body) ≡ Frame f from to =
+    let q : Ok (frame_with o.fields 20 (20 + length o.body)) ≡ Ok (frame_with f from to) =
     sym back.0 ∙ ap reading_of w.is ∙ is_frame_law in
-    let p : o.fields ≡ f = cc in
-    let start : 20 ≡ from = cc in
-    let end : 20 + length o.body ≡ to = cc in
+    let r : frame_with o.fields 20 (20 + length o.body) ≡ frame_with f from to = cc in
+    let p : o.fields ≡ f = ap (λ x. x.fields) r in
+    let start : 20 ≡ from = ap (λ x. x.start) r in
+    let end : 20 + length o.body ≡ to = ap (λ x. x.end) r in
     let b : o.body ≡ slice from to s = sym back.1 ∙ (λ i. slice (start i) (end i) (w.is i)) in
     subst (λ (x : List ℕ). WritingOf s f x) b (subst (λ (x : Fields). WritingOf s x o.body) p w)

@@ -2,10 +2,11 @@
 -- old, also where the slave's is loaded again in mid-list (document 02, note 8) and where their clocks drift (note 9);
 -- and the age that it is shown with is close to the true one (notes 7 and 9).
 use Rattle.std.specs.Prelude.{◌≡◌, Bool, true, false, not, cond, List, ℕ, suc, ◌+◌, ◌-◌, ◌^◌, ◌≤◌, ◌<◌, length}
-use Rattle.std.proofs.Math.Option.{some}
+use Rattle.std.specs.Prelude.{Err, Ok}
+use Rattle.std.specs.Prelude.{Some}
 use Rattle.endpoint.specs.declared.Settings.{Settings}
 use Rattle.endpoint.specs.declared.Reason.TheVariants as R
-use Rattle.endpoint.specs.declared.Answer.TheVariants.{Done, Dropped}
+use Rattle.endpoint.specs.declared.Refusal.TheVariants.{Dropped}
 use Rattle.endpoint.specs.Time.{drift_allowance, bound_of}
 use Rattle.records.specs.declared.Record.{Record}
 use Rattle.gateway.specs.Tables.{is_entry, place_of}
@@ -21,7 +22,7 @@ use Rattle.age.specs.Runs.{after_all}
 -- loaded with answer 0 and a session number into some slice of records, a gateway holds the CID at an entry, as the
 -- slave or as the master
 pub record Holds (number : ℕ) (list : List ℕ) (records : List Record) (cid : ℕ) (slave : Bool) : Type 0 where
-  pub done : (loaded_of number list records).answer ≡ Done
+  pub done : (loaded_of number list records).answer ≡ Ok tt
   pub there : is_entry (loaded_of number list records).lent (place_of cid (loaded_of number list records).lent) ≡ true
   pub role : (settings_for cid (loaded_of number list records).lent).slave ≡ slave
 
@@ -34,7 +35,7 @@ settings_in {number} {list} {records} {cid} h = settings_for cid (loaded_of numb
 pub record ItsSend (cid : ℕ) (x : Show) (w : Sent) : Type 0 where
   pub other : w.slave ≡ not x.slave
   pub refresh : is_refresh_of cid w.bytes ≡ true
-  pub value : w.lent ≡ some x.bytes
+  pub value : w.lent ≡ Some x.bytes
   -- note 9: "Ages are then bounded by A + I + 10 at the slave and A + I + R + 10 at the master, in the master's ticks"
   pub bounded : x.moment ≤ w.moment + bound_of x.settings
   -- "Note 7's figures may fall 10 lower"
@@ -92,5 +93,5 @@ NeverAhead = (nm ns : ℕ) (wm ws : List ℕ) (rm rs : List Record) (cid : ℕ)
     (hm : Holds nm wm rm cid false) (hs : Holds ns ws rs cid true) (shift : ℕ) (vs : List Event)
     (slave : Bool) (t other room : ℕ) (s : List ℕ) → let l = run_of nm wm rm ns ws rs cid shift vs in
     (after_event cid l (called slave t other room (deliver s))).allowed ≡ true → is_frame_of cid s ≡ true
-    → (call_in (lent_at l slave) t room (deliver s)).answer ≡ Dropped R.Ahead
+    → (call_in (lent_at l slave) t room (deliver s)).answer ≡ Err (Dropped R.Ahead)
     → (sent_at l.log (last_of s l.log - 1)).moment + 2 ^ 46 < moment_of shift slave t other

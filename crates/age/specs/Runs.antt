@@ -2,8 +2,8 @@
 -- and 9: their sentences stand here in document 01's order, each above what says it; their devices are gateways. All is
 -- for one CID that both hold.
 use Rattle.std.specs.Prelude.{Bool, true, false, ◌&&◌, ◌||◌, not, cond, List, [], ◌∷◌, ◌++◌, ℕ, suc, ◌-◌, eqb, leb, length, get_or}
+use Rattle.std.specs.Prelude.{None, Option, Some}
 use Rattle.std.specs.Bool.{beq}
-use Rattle.std.proofs.Math.Option.{Option, some, none}
 use Rattle.words.specs.Bytes.{same}
 use Rattle.endpoint.specs.declared.Settings.{Settings}
 use Rattle.endpoint.specs.Answers.{is_done}
@@ -33,7 +33,7 @@ sent slave moment loads bytes lent =
 
 -- what stands past the end of the log is of no account
 abbrev pub no_sent : Sent
-no_sent = sent false 0 0 [] none
+no_sent = sent false 0 0 [] None
 
 unfoldable pub sent_at : List Sent → ℕ → Sent
 sent_at l i = get_or l i no_sent
@@ -134,10 +134,10 @@ never_falls l m = leb l.latest m
 -- either end; or bytes that the reader takes for no frame, or for one under another CID."
 -- only a send is lent a value
 abbrev pub lent_to : Call → Option (List ℕ)
-lent_to (act a n) = none
-lent_to (send n value) = some value
-lent_to (deliver s) = none
-lent_to (show n) = none
+lent_to (act a n) = None
+lent_to (send n value) = Some value
+lent_to (deliver s) = None
+lent_to (show n) = None
 
 -- what a call put on the bus is logged where the reader takes it for a frame of the CID
 abbrev pub logged : ℕ → Bool → ℕ → ℕ → Call → Written → List Sent

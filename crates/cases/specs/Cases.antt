@@ -1,12 +1,11 @@
 -- Document 01's cases that are proved ("Cases at each edge", the rows marked P), and document 02's: what the
 -- definitions give beside what the papers state.
 use Rattle.std.specs.Prelude.{◌≡◌, Bool, true, false, not, cond, List, [], ◌∷◌, ◌++◌, map, ℕ, zero, suc, ◌+◌, ◌-◌, ◌/◌, ◌%◌, eqb, length, replicate}
+use Rattle.std.specs.Prelude.{None, Ok, Option, Some}
+use Rattle.frame.specs.Reading.{frame_with}
 use Rattle.frame.specs.declared.Command.{Command}
 use Rattle.frame.specs.declared.Command.TheVariants as K
-use Rattle.frame.specs.declared.Subconnection.{Subconnection}
-use Rattle.frame.specs.declared.Subconnection.TheVariants.{Number}
 use Rattle.frame.specs.declared.Fields.{Fields}
-use Rattle.frame.specs.declared.Reading.TheVariants.{Frame}
 use Rattle.words.specs.Words.{word_at, word_bytes}
 use Rattle.frame.specs.Control.{control_of}
 use Rattle.frame.specs.Reading as Reader
@@ -15,13 +14,7 @@ use Rattle.endpoint.specs.declared.Settings.{Settings}
 use Rattle.endpoint.specs.declared.State.{State}
 use Rattle.endpoint.specs.declared.State.TheVariants.{Close, Starting, EstablishPending, Establish, ParamVerify}
 use Rattle.endpoint.specs.declared.State.TheVariants.{FuncRunning, RefreshPending, Refresh, Terminate}
-use Rattle.endpoint.specs.declared.Timestamp.{Timestamp}
-use Rattle.endpoint.specs.declared.Timestamp.TheVariants.{Never, At}
-use Rattle.endpoint.specs.declared.Pending.{Pending}
-use Rattle.endpoint.specs.declared.Pending.TheVariants.{Nothing, Asked}
 use Rattle.endpoint.specs.declared.Queue.TheVariants.{Empty}
-use Rattle.endpoint.specs.declared.Age.{Age}
-use Rattle.endpoint.specs.declared.Age.TheVariants.{None, Ticks}
 use Rattle.endpoint.specs.Endpoint.{Endpoint}
 use Rattle.endpoint.specs.Answers.{number_of}
 use Rattle.endpoint.specs.Table.{row_of}
@@ -41,7 +34,6 @@ use Rattle.records.specs.Records.{queue_number, endpoint_of, record_of}
 use Rattle.gateway.specs.declared.Gateway.{Gateway}
 use Rattle.gateway.specs.Tables.{Lent, lent, blank_record, endpoint_at, at_clock}
 use Rattle.gateway.specs.Loading.{loaded_with, loaded_of}
-use Rattle.gateway.specs.Calls as Entries
 use Rattle.gateway.specs.Calls.{Result, start_in, send_in, stop_in, restart_in, set_not_ready_in, set_result_in, clear_result_in}
 use Rattle.gateway.specs.Calls.{invoke_in, show_in, by_reading, deliver_in}
 
@@ -61,13 +53,13 @@ abbrev ageless : Settings
 ageless = settings_of 0x0102 0x0103 0x021 100 50 0 7
 
 -- the session number of the cases
-abbrev pub seven : Subconnection
-seven = Number 7
+abbrev pub seven : Option ℕ
+seven = Some 7
 
 -- an endpoint in a state since some reading, with what it has measured, its ts_offset and this session number
 abbrev pub endpoint_in : Settings → State → ℕ → ℕ → ℕ → Endpoint
 endpoint_in s state since measured offset =
-    in_state state (timed_from since (with_setup Nothing measured offset 0 Empty false (with_session seven (fresh_of s 7))))
+    in_state state (timed_from since (with_setup None measured offset 0 Empty false (with_session seven (fresh_of s 7))))
 
 abbrev pub cid : ℕ
 cid = 0x01020103
@@ -80,18 +72,18 @@ abbrev pub zero_word : List ℕ
 zero_word = word_bytes 0
 
 -- ---- parts as numbers, 0 for none
-abbrev pub stamp_of : Timestamp → ℕ
-stamp_of Never = 0
-stamp_of (At s) = s
+abbrev pub stamp_of : Option ℕ → ℕ
+stamp_of None = 0
+stamp_of (Some s) = s
 
-abbrev pub pending_of : Pending → ℕ
-pending_of Nothing = 0
-pending_of (Asked s) = s
+abbrev pub pending_of : Option ℕ → ℕ
+pending_of None = 0
+pending_of (Some s) = s
 
 -- an entry, counted from 1
-abbrev pub ordinal_of : Entries.Entry → ℕ
-ordinal_of Entries.Absent = 0
-ordinal_of (Entries.At n) = suc n
+abbrev pub ordinal_of : Option ℕ → ℕ
+ordinal_of None = 0
+ordinal_of (Some n) = suc n
 
 -- the last reading
 abbrev last_in : Gateway → ℕ
@@ -101,9 +93,9 @@ abbrev mark_of : Result → ℕ
 mark_of r = cond r.failsafe 1 0
 
 -- the age that a show gives, counted from 1
-abbrev aged_in : Age → ℕ
+abbrev aged_in : Option ℕ → ℕ
 aged_in None = 0
-aged_in (Ticks n) = suc n
+aged_in (Some n) = suc n
 
 -- of what a call writes: CTRL and the timestamp
 abbrev pub control_in : Written → ℕ
@@ -155,7 +147,7 @@ replying o =
 -- a reply at 1,030 at a master whose S-RefreshReady of 1,000 is pending, with an m2 of 5
 abbrev reply : Bool → Bool → List ℕ → Outcome
 reply busy error body =
-    deliver_of (with_pending (Asked 1000) (endpoint_in master_settings ParamVerify 1000 5 0)) 1030
+    deliver_of (with_pending (Some 1000) (endpoint_in master_settings ParamVerify 1000 5 0)) 1030
     (ack_fields K.RefreshReady busy error false seven cid 1000) body
 
 -- its number; the state, the timer's start, m2 and the pending request that it leaves
@@ -320,7 +312,7 @@ form_of control = Reader.number_of (Reader.reading_of (twice (with_check_word (h
 abbrev after : ℕ → State → Endpoint
 after n state =
     with_requests n
-    (with_timestamps (record { sent = At 1000; accepted = Never }) (endpoint_in master_settings state 1000 5 0))
+    (with_timestamps (record { sent = Some 1000; accepted = None }) (endpoint_in master_settings state 1000 5 0))
 
 abbrev sent_after : ℕ → State → ℕ → Outcome
 sent_after n state t = send_of (after n state) t word
@@ -404,7 +396,7 @@ commanded = (send_of (waiting ParamVerify) 1010 []).endpoint
 -- its reply at 1,030 as the reader hands it on: Busy, Error, timestamp and S-Data
 abbrev answered : Bool → Bool → ℕ → List ℕ → Result
 answered busy error stamp body =
-    by_reading (alone commanded) 1030 248 body (Frame (ack_fields K.InvokeFunc busy error false seven cid stamp) 0 (length body))
+    by_reading (alone commanded) 1030 248 body (Ok (frame_with (ack_fields K.InvokeFunc busy error false seven cid stamp) 0 (length body)))
 
 -- the result in bytes
 abbrev result_bytes : List ℕ
@@ -538,7 +530,7 @@ request_limits =
     -- 19 before 17, and after 11; a count that no call leaves
     ∷ row (calling (sent_after 44 EstablishPending 1000)) (17 ∷ 0 ∷ 0 ∷ row_of EstablishPending ∷ 44 ∷ [])
     ∷ row (calling (sent_after 45 EstablishPending 1000)) (19 ∷ 0 ∷ 0 ∷ row_of Terminate ∷ 45 ∷ [])
-    ∷ row (calling (send_of (with_pending (Asked 1000) (after 45 EstablishPending)) 1010 word))
+    ∷ row (calling (send_of (with_pending (Some 1000) (after 45 EstablishPending)) 1010 word))
     (11 ∷ 0 ∷ 0 ∷ row_of EstablishPending ∷ 45 ∷ [])
     ∷ row (calling (sent_after 255 EstablishPending 1010)) (19 ∷ 0 ∷ 0 ∷ row_of Terminate ∷ 255 ∷ [])
     -- S-Refresh and S-Disconnect are no requests
@@ -639,7 +631,7 @@ commands =
     -- invoke in setup: the command waits, nothing is written, and the timer is not restarted; so too while a request is
     -- pending
     ∷ row (invoking (master Starting) 7 []) (0 ∷ 1 ∷ 0 ∷ row_of Starting ∷ 1000 ∷ 1 ∷ 1 ∷ 7 ∷ [])
-    ∷ row (invoking (with_pending (Asked 1000) (master Establish)) 7 word)
+    ∷ row (invoking (with_pending (Some 1000) (master Establish)) 7 word)
     (0 ∷ 1 ∷ 0 ∷ row_of Establish ∷ 1000 ∷ 1 ∷ 2 ∷ 7 ∷ [])
     -- in Close, in Refresh and at a slave: 11, before 12
     ∷ row (invoking (master Close) 7 []) (11 ∷ 1 ∷ 0 ∷ row_of Close ∷ 1000 ∷ 0 ∷ 0 ∷ 0 ∷ [])

@@ -1,9 +1,10 @@
 -- The cases of document 02's note 6: error records, S-ReadErrorInfo and S-WriteErrorInfo.
 use Rattle.std.specs.Prelude.{Bool, true, false, cond, List, [], ◌∷◌, ◌++◌, ℕ, ◌+◌, length}
+use Rattle.std.specs.Prelude.{Ok}
+use Rattle.frame.specs.Reading.{frame_with}
 use Rattle.errors.specs.Reading.{is_record}
 use Rattle.frame.specs.declared.Command.{Command}
 use Rattle.frame.specs.declared.Command.TheVariants as K
-use Rattle.frame.specs.declared.Reading.TheVariants.{Frame}
 use Rattle.words.specs.Words.{word_at, word_bytes}
 use Rattle.endpoint.specs.declared.State.{State}
 use Rattle.endpoint.specs.declared.State.TheVariants.{Close, Starting, EstablishPending, Establish, ParamVerify}
@@ -350,7 +351,7 @@ hearing o =
 abbrev delivered : List ℕ → List ℕ
 delivered body =
     let r = by_reading (alone (send_of (to_read ParamVerify) 1010 []).endpoint) 1030 248 body
-    (Frame (ack_fields K.ReadErrorInfo false false false seven cid 1010) 0 (length body)) in
+    (Ok (frame_with (ack_fields K.ReadErrorInfo false false false seven cid 1010) 0 (length body))) in
     number_of r.answer ∷ ordinal_of r.entry ∷ length (bytes_of r.writes) ∷ bytes_of r.writes
 
 abbrev stays : ℕ → ℕ → List ℕ

@@ -1,16 +1,13 @@
 -- The cases of measurements of the clocks in Refresh (document 02, note 9): what the definitions give beside what the
 -- paper states.
 use Rattle.std.specs.Prelude.{Bool, true, false, List, [], ◌∷◌, ◌++◌, ℕ}
+use Rattle.std.specs.Prelude.{None, Option, Some}
 use Rattle.frame.specs.declared.Command.{Command}
 use Rattle.frame.specs.declared.Command.TheVariants as K
-use Rattle.frame.specs.declared.Subconnection.{Subconnection}
-use Rattle.frame.specs.declared.Subconnection.TheVariants.{Absent, Number}
 use Rattle.frame.specs.Control.{flag}
 use Rattle.endpoint.specs.declared.Settings.{Settings}
 use Rattle.endpoint.specs.declared.State.{State}
 use Rattle.endpoint.specs.declared.State.TheVariants.{ParamVerify, RefreshPending, Refresh, Terminate}
-use Rattle.endpoint.specs.declared.Pending.{Pending}
-use Rattle.endpoint.specs.declared.Pending.TheVariants.{Nothing, Asked}
 use Rattle.endpoint.specs.Endpoint.{Endpoint}
 use Rattle.endpoint.specs.Answers.{number_of}
 use Rattle.endpoint.specs.Table.{row_of}
@@ -55,7 +52,7 @@ abbrev master : ℕ → Settings
 master roundtrip = settings_of 0x0102 0x0103 0x021 65535 roundtrip 65535 7
 
 -- in Refresh since 5: whether S-RefreshMO was answered, Offset op seq, the reference, the pending request, and m2
-abbrev in_refresh : Bool → Bool → ℕ → Pending → ℕ → Endpoint
+abbrev in_refresh : Bool → Bool → ℕ → Option ℕ → ℕ → Endpoint
 in_refresh isAnswered sequence reference pending measured =
     with_measurement (measurement_of isAnswered sequence reference)
     (with_pending pending (endpoint_in (master 50) Refresh 5 measured 0))
@@ -63,19 +60,19 @@ in_refresh isAnswered sequence reference pending measured =
 -- just entered; S-RefreshMO sent at 10,005, its reply taken at 10,055, S-RefreshGO sent at 10,058, its reply taken: as the
 -- rows have each left by the last
 abbrev entered : Endpoint
-entered = in_refresh false false 5 Nothing 4
+entered = in_refresh false false 5 None 4
 
 abbrev asked : Endpoint
-asked = in_refresh false true 10005 (Asked 10005) 4
+asked = in_refresh false true 10005 (Some 10005) 4
 
 abbrev heard : Endpoint
-heard = in_refresh true true 10005 Nothing 10055
+heard = in_refresh true true 10005 None 10055
 
 abbrev gone : Endpoint
-gone = in_refresh true true 10005 (Asked 10058) 10055
+gone = in_refresh true true 10005 (Some 10058) 10055
 
 abbrev closed : Endpoint
-closed = in_refresh false true 10005 Nothing 10055
+closed = in_refresh false true 10005 None 10055
 
 -- a send, with this value lent
 abbrev sent : Endpoint → ℕ → List ℕ → Outcome
@@ -155,13 +152,13 @@ measurement_drops =
 -- a reply at a master in RefreshPending, its S-RefreshGO of 5 pending
 abbrev replied_in_setup : Command → Bool → List ℕ
 replied_in_setup k sequence =
-    measuring (replied (with_pending (Asked 5) (endpoint_in (master 50) RefreshPending 5 4 0)) 10 k 5 sequence)
+    measuring (replied (with_pending (Some 5) (endpoint_in (master 50) RefreshPending 5 4 0)) 10 k 5 sequence)
 
 abbrev in_setup : List ℕ
 in_setup = row_of RefreshPending ∷ 5 ∷ 0 ∷ 0 ∷ 0 ∷ 5 ∷ 4 ∷ 0 ∷ 0 ∷ []
 
 -- S-RefreshMO's reply at 10,010, with Error or not, in this session, with this timestamp and S-Data
-abbrev heard_as : Bool → Subconnection → ℕ → List ℕ → List ℕ
+abbrev heard_as : Bool → Option ℕ → ℕ → List ℕ → List ℕ
 heard_as error n stamp body =
     measuring (call_of asked 10010 (deliver (ack_fields K.RefreshMo false error true n cid stamp) body))
 
@@ -186,8 +183,8 @@ measurement_replies =
     ∷ row (replied_in_setup K.RefreshMo true) (only 11 in_setup)
     ∷ row (measuring (replied asked 10010 K.RefreshReady 10005 false)) (only 11 asking)
     -- 21 before 12, 12 before 13, 13 before 16
-    ∷ row (heard_as false (Number 8) 10005 []) (only 21 asking)
-    ∷ row (heard_as false Absent 10005 zero_word) (only 21 asking)
+    ∷ row (heard_as false (Some 8) 10005 []) (only 21 asking)
+    ∷ row (heard_as false None 10005 zero_word) (only 21 asking)
     ∷ row (heard_as false seven 10004 []) (only 12 asking)
     ∷ row (heard_as true seven 10004 zero_word) (only 13 asking)
     -- Error, or a word that is not zero: 16
@@ -268,7 +265,7 @@ abbrev setup_in : State → List ℕ
 setup_in state = row_of state ∷ 6004 ∷ 0 ∷ 0 ∷ 0 ∷ 0 ∷ 6003 ∷ 0 ∷ 1004 ∷ []
 
 -- S-RefreshMO or S-RefreshGO at 16,010 while one is open, in this session, with this timestamp and S-Data
-abbrev requested_as : Command → Subconnection → ℕ → List ℕ → List ℕ
+abbrev requested_as : Command → Option ℕ → ℕ → List ℕ → List ℕ
 requested_as k n stamp body = measuring (call_of armed 16010 (deliver (sent_fields k true false n cid stamp 0) body))
 
 abbrev ended_after : List ℕ
@@ -285,8 +282,8 @@ measurement_refusals =
     ∷ (row_of Refresh ∷ 6010 ∷ 0 ∷ 0 ∷ 6003 ∷ 0 ∷ 6003 ∷ 281474976705663 ∷ 1010 ∷ []) ++ zero_word)
     ∷ row (requested_in_setup ParamVerify K.RefreshGo true) (only 11 (setup_in ParamVerify))
     -- 21 before 12, 12 before 13, 13 before 16
-    ∷ row (requested_as K.RefreshMo (Number 8) 11008 []) (only 21 arming)
-    ∷ row (requested_as K.RefreshGo Absent 11008 zero_word) (only 21 arming)
+    ∷ row (requested_as K.RefreshMo (Some 8) 11008 []) (only 21 arming)
+    ∷ row (requested_as K.RefreshGo None 11008 zero_word) (only 21 arming)
     ∷ row (requested_as K.RefreshMo seven 11000 []) (only 12 arming)
     ∷ row (requested_as K.RefreshGo seven 11000 word) (only 13 arming)
     -- a word that is not zero: 16, the reply with Error and the same Offset op seq

@@ -1,8 +1,7 @@
--- A slave's time in the standard's words is document 01's, CC counts as carry_counter would, and what the code works out
--- is that time. T code and CC are the lower 16 bits of clock + offset and the 32 above them; the rest follows from that.
-use Rattle.std.proofs.Common.{◌≡◌, ℕ, ◌+◌, ◌*◌, ◌/◌, ◌%◌, ◌^◌, ◌<◌, Bool, true, false, cond, ltb, sym, refl, ◌∙◌, arith, ltb-false, ltb-true}
+-- A slave's time in the standard's words is document 01's, and CC counts as carry_counter would. T code and CC are the lower 16 bits of clock + offset and the 32 above them; the rest follows from that.
+use Rattle.std.proofs.Common.{◌≡◌, ℕ, ◌+◌, ◌*◌, ◌/◌, ◌%◌, ◌<◌, Bool, true, false, cond, ltb, sym, refl, ◌∙◌, arith, ltb-false, ltb-true}
 use Rattle.endpoint.specs.Time.{span}
-use Rattle.endpoint.specs.TCode.{lower, upper, t_code_of, t_code_carry, cc_of, slave_time, wrapped, TCodeTheorem}
+use Rattle.endpoint.specs.TCode.{t_code_of, cc_of, wrapped, TCodeTheorem}
 
 t_code : (clock offset : ℕ) → t_code_of clock offset ≡ (clock + offset) % 65536
 t_code clock offset = omega arith
@@ -60,17 +59,3 @@ t_code_theorem = record {
   high = λ clock offset. high_of (clock + offset) ∙ sym (cc_of_law clock offset);
   counts = counts;
 }
-
--- CC by a sum of 64 bits
-wide : (a b c : ℕ) → (a + (b + c)) % 2 ^ 64 % 4294967296 ≡ (a + b + c) % 4294967296
-wide a b c = omega arith
-
--- what the code works out, with the carry by a comparison
-pub reckoned : (clock offset : ℕ)
-    → 65536 * ((upper clock + (upper offset + wrapped (lower clock) (t_code_of clock offset))) % 2 ^ 64 % 4294967296)
-    + t_code_of clock offset
-    ≡ slave_time clock offset
-reckoned clock offset = rw (
-  wraps (lower clock) (lower offset) (omega arith) (omega arith),
-  wide (upper clock) (upper offset) (t_code_carry clock offset),
-)

@@ -1,11 +1,16 @@
 -- Answers: document 01's numbers, and the first refusal that applies.
 use Rattle.std.specs.Prelude.{ℕ, Bool, true, false, cond}
+use Rattle.std.specs.Prelude.{Result, Err, Ok}
 use Rattle.endpoint.specs.declared.Reason.{Reason}
 use Rattle.endpoint.specs.declared.Reason.TheVariants as R
-use Rattle.endpoint.specs.declared.Answer.{Answer}
-use Rattle.endpoint.specs.declared.Answer.TheVariants.{Done, Dropped, Ended}
+use Rattle.endpoint.specs.declared.Refusal.{Refusal}
+use Rattle.endpoint.specs.declared.Refusal.TheVariants.{Dropped, Ended}
 use Rattle.endpoint.specs.declared.Faults.{Faults}
 use Rattle.endpoint.specs.Endpoint.{Endpoint}
+
+-- done; refused; or refused with the connection ended
+abbrev pub Answer : Type 0
+Answer = Result Unit Refusal
 
 abbrev pub reason_number : Reason → ℕ
 reason_number R.Clock = 1
@@ -32,9 +37,9 @@ reason_number R.Session = 21
 
 -- document 01's number of an answer, 0 for done
 abbrev pub number_of : Answer → ℕ
-number_of Done = 0
-number_of (Dropped r) = reason_number r
-number_of (Ended r) = reason_number r
+number_of (Ok _) = 0
+number_of (Err (Dropped r)) = reason_number r
+number_of (Err (Ended r)) = reason_number r
 
 -- what can refuse a user's call: 11, 12, 19 and 17
 abbrev pub call_faults : Bool → Bool → Bool → Bool → Faults
@@ -100,34 +105,34 @@ value_faults turn session width repeat ahead late = record {
 -- and before it, and 19, which comes after 12; 15, 16 and 19 end the connection
 abbrev pub first_of : Faults → Answer
 first_of f =
-    cond f.turn (Dropped R.Turn)
-    (cond f.session (Dropped R.Session)
-    (cond f.norecord (Dropped R.Record)
-    (cond f.width (Dropped R.Width)
-    (cond f.exhausted (Ended R.Exhausted)
-    (cond f.repeat (Dropped R.Repeat)
-    (cond f.ahead (Dropped R.Ahead)
-    (cond f.late (Ended R.Late)
-    (cond f.unequal (Ended R.Unequal)
-    (cond f.soon (Dropped R.TooSoon) Done)))))))))
+    cond f.turn (Err (Dropped R.Turn))
+    (cond f.session (Err (Dropped R.Session))
+    (cond f.norecord (Err (Dropped R.Record))
+    (cond f.width (Err (Dropped R.Width))
+    (cond f.exhausted (Err (Ended R.Exhausted))
+    (cond f.repeat (Err (Dropped R.Repeat))
+    (cond f.ahead (Err (Dropped R.Ahead))
+    (cond f.late (Err (Ended R.Late))
+    (cond f.unequal (Err (Ended R.Unequal))
+    (cond f.soon (Err (Dropped R.TooSoon)) (Ok tt))))))))))
 
 abbrev pub is_done : Answer → Bool
-is_done Done = true
-is_done (Dropped r) = false
-is_done (Ended r) = false
+is_done (Ok _) = true
+is_done (Err (Dropped r)) = false
+is_done (Err (Ended r)) = false
 
 abbrev pub is_dropped : Answer → Bool
-is_dropped Done = false
-is_dropped (Dropped r) = true
-is_dropped (Ended r) = false
+is_dropped (Ok _) = false
+is_dropped (Err (Dropped r)) = true
+is_dropped (Err (Ended r)) = false
 
 abbrev pub is_ended : Answer → Bool
-is_ended Done = false
-is_ended (Dropped r) = false
-is_ended (Ended r) = true
+is_ended (Ok _) = false
+is_ended (Err (Dropped r)) = false
+is_ended (Err (Ended r)) = true
 
 -- the endpoint that an answer leaves
 abbrev pub left_by : Answer → Endpoint → Endpoint → Endpoint → Endpoint
-left_by Done stays ends next = next
-left_by (Dropped r) stays ends next = stays
-left_by (Ended r) stays ends next = ends
+left_by (Ok _) stays ends next = next
+left_by (Err (Dropped r)) stays ends next = stays
+left_by (Err (Ended r)) stays ends next = ends

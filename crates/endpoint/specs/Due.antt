@@ -1,11 +1,10 @@
 -- The request due from a master, what can hold it back, whether a command may be queued, and what holds a station's
 -- reply back; in Refresh the measurement that is due, or under way.
 use Rattle.std.specs.Prelude.{ℕ, ◌-◌, Bool, true, false, cond, not, ◌&&◌, ◌||◌, ◌==◌, nat_le, nat_lt}
+use Rattle.std.specs.Prelude.{None, Option, Some}
 use Rattle.frame.specs.declared.Command.{Command}
 use Rattle.frame.specs.declared.Command.TheVariants as K
 use Rattle.frame.specs.Control.{is, waits_for_station}
-use Rattle.endpoint.specs.declared.Pending.{Pending}
-use Rattle.endpoint.specs.declared.Pending.TheVariants.{Nothing, Asked}
 use Rattle.endpoint.specs.declared.Queue.{Queue}
 use Rattle.endpoint.specs.declared.Queue.TheVariants.{Empty, InvokeFunc, ReadErrorInfo, WriteErrorInfo, Closed}
 use Rattle.endpoint.specs.Endpoint.{Endpoint}
@@ -42,14 +41,14 @@ is_command_due e = is_waiting e.setup.queue && is (request_of e.state) K.Refresh
 abbrev pub request_due : Endpoint → Command
 request_due e = cond (is_command_due e) (queued_in e.setup.queue) (request_of e.state)
 
-abbrev pub is_pending : Pending → Bool
-is_pending Nothing = false
-is_pending (Asked stamp) = true
+abbrev pub is_pending : Option ℕ → Bool
+is_pending None = false
+is_pending (Some stamp) = true
 
 -- the pending request has this timestamp
-abbrev pub answers_to : Pending → ℕ → Bool
-answers_to Nothing stamp = false
-answers_to (Asked asked) stamp = asked == stamp
+abbrev pub answers_to : Option ℕ → ℕ → Bool
+answers_to None stamp = false
+answers_to (Some asked) stamp = asked == stamp
 
 -- a master may send the request due: in setup, with none pending
 abbrev pub may_request : Endpoint → Bool
@@ -81,9 +80,9 @@ abbrev pub measurement_interval : ℕ
 measurement_interval = 10000
 
 -- when its last step was taken: a request of a master that is pending was sent, else a reply was taken or given
-abbrev pub last_step : Pending → ℕ → ℕ
-last_step Nothing measured = measured
-last_step (Asked stamp) measured = stamp
+abbrev pub last_step : Option ℕ → ℕ → ℕ
+last_step None measured = measured
+last_step (Some stamp) measured = stamp
 
 -- "a measurement whose next step takes over R ticks of an end's clock is dropped there": what is late is none, until
 -- another begins

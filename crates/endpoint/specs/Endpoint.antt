@@ -2,7 +2,7 @@
 -- error record that its user has handed over. In memory it is a record (the crate records); the code hands on by value
 -- its core, which is all but the bytes of these three.
 use Rattle.std.specs.Prelude.{ℕ, Bool, List, replicate}
-use Rattle.frame.specs.declared.Subconnection.{Subconnection}
+use Rattle.std.specs.Prelude.{Option}
 use Rattle.endpoint.specs.declared.Settings.{Settings}
 use Rattle.endpoint.specs.declared.State.{State}
 use Rattle.endpoint.specs.declared.Timestamps.{Timestamps}
@@ -30,7 +30,7 @@ pub record Endpoint : Type 0 where
   pub settings : Settings
   pub state : State
   -- the session number: at a slave its user's, at a master that of the S-Connect reply, none before it
-  pub session : Subconnection
+  pub session : Option ℕ
   -- where the timer starts
   pub since : ℕ
   pub timestamps : Timestamps

@@ -1,14 +1,13 @@
 -- State against command, laid out like 001's table 40: the state that each command leads to, and the request due in
 -- each state.
 use Rattle.std.specs.Prelude.{ℕ, Bool, true, false, ◌||◌, ◌==◌}
+use Rattle.std.specs.Prelude.{None, Option, Some}
 use Rattle.frame.specs.declared.Command.{Command}
 use Rattle.frame.specs.declared.Command.TheVariants as K
 use Rattle.endpoint.specs.declared.State.{State}
 use Rattle.endpoint.specs.declared.State.TheVariants.{Close, Starting, EstablishPending, Establish, ParamVerify}
 use Rattle.endpoint.specs.declared.State.TheVariants.{FuncRunning, RefreshPending, Refresh, Terminate}
 use Rattle.endpoint.specs.declared.State.TheVariants.{TerminateMore}
-use Rattle.endpoint.specs.declared.Next.{Next}
-use Rattle.endpoint.specs.declared.Next.TheVariants.{To, No}
 
 -- one of ten, by the state: Close, Starting, EstablishPending, Establish, ParamVerify, FuncRunning, RefreshPending,
 -- Refresh, Terminate, TerminateMore
@@ -42,25 +41,25 @@ by_command K.Disconnect a b c d e f g h i j k = k
 -- a row a state: what each command does in it. The transitions of table 40 stand above each row; what has none there is
 -- document 01's: S-Disconnect, S-Refresh accepted, and Starting, a master's before its first reply; or document 02's:
 -- S-ReadErrorInfo. S-WriteErrorInfo leads to TerminateMore where more error records follow (ByFrame)
-abbrev pub next_of : Command → State → Next
+abbrev pub next_of : Command → State → Option State
 -- S-Connect ST1
-next_of k Close = by_command k (To EstablishPending) No No No No No No No No No No
-next_of k Starting = by_command k (To EstablishPending) No No No No No No No No No (To Terminate)
+next_of k Close = by_command k (Some EstablishPending) None None None None None None None None None None
+next_of k Starting = by_command k (Some EstablishPending) None None None None None None None None None (Some Terminate)
 -- S-Connect ST25, S-InitConfirmNetPrm ST2, S-WriteErrorInfo ST28, ST29
-next_of k EstablishPending = by_command k (To EstablishPending) (To Establish) No No No (To Terminate) No No No No (To Terminate)
+next_of k EstablishPending = by_command k (Some EstablishPending) (Some Establish) None None None (Some Terminate) None None None None (Some Terminate)
 -- S-InitVerifyStnPrm ST4, S-WriteErrorInfo ST31, ST32
-next_of k Establish = by_command k No No (To ParamVerify) No No (To Terminate) No No No No (To Terminate)
+next_of k Establish = by_command k None None (Some ParamVerify) None None (Some Terminate) None None None None (Some Terminate)
 -- S-InvokeFunc ST7, ST8, S-WriteErrorInfo ST34, ST35, S-RefreshReady ST6
-next_of k ParamVerify = by_command k No No No (To FuncRunning) (To ParamVerify) (To Terminate) (To RefreshPending) No No No (To Terminate)
+next_of k ParamVerify = by_command k None None None (Some FuncRunning) (Some ParamVerify) (Some Terminate) (Some RefreshPending) None None None (Some Terminate)
 -- S-InvokeFunc ST10, ST11, S-WriteErrorInfo ST37, ST38, S-RefreshReady ST12
-next_of k FuncRunning = by_command k No No No (To FuncRunning) No (To Terminate) (To RefreshPending) No No No (To Terminate)
+next_of k FuncRunning = by_command k None None None (Some FuncRunning) None (Some Terminate) (Some RefreshPending) None None None (Some Terminate)
 -- S-WriteErrorInfo ST39, ST40, S-RefreshGO ST14
-next_of k RefreshPending = by_command k No No No No No (To Terminate) No No (To Refresh) No (To Terminate)
+next_of k RefreshPending = by_command k None None None None None (Some Terminate) None None (Some Refresh) None (Some Terminate)
 -- S-RefreshMO ST17, S-RefreshGO ST18
-next_of k Refresh = by_command k No No No No No No No (To Refresh) (To Refresh) (To Refresh) (To Terminate)
-next_of k Terminate = by_command k No No No No No No No No No No No
+next_of k Refresh = by_command k None None None None None None None (Some Refresh) (Some Refresh) (Some Refresh) (Some Terminate)
+next_of k Terminate = by_command k None None None None None None None None None None None
 -- S-WriteErrorInfo ST21, ST44
-next_of k TerminateMore = by_command k No No No No No (To Terminate) No No No No No
+next_of k TerminateMore = by_command k None None None None None (Some Terminate) None None None None None
 
 -- a state's row of the table, and a command's column
 abbrev pub row_of : State → ℕ
@@ -80,14 +79,14 @@ is_setup s = by_state s false true true true true true true false false false
 abbrev pub is_terminated : State → Bool
 is_terminated s = is_state s Terminate || is_state s TerminateMore
 
-abbrev pub is_no : Next → Bool
-is_no (To s) = false
-is_no No = true
+abbrev pub is_no : Option State → Bool
+is_no (Some s) = false
+is_no None = true
 
 -- where a command leads; where it is not taken the state stays
-abbrev pub state_to : Next → State → State
-state_to (To s) last = s
-state_to No last = last
+abbrev pub state_to : Option State → State → State
+state_to (Some s) last = s
+state_to None last = last
 
 -- the request that a master sends in a setup state, and whose reply moves it on; in Refresh S-RefreshMO, elsewhere none
 -- is due

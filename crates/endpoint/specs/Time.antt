@@ -1,11 +1,10 @@
 -- Clocks, timestamps and ages (document 01, "Clock and stamp" and "The steps"), and the clock step.
 use Rattle.std.specs.Prelude.{◌≡◌, ℕ, ◌+◌, ◌-◌, ◌%◌, Bool, true, false, cond, ◌&&◌, ◌||◌, replicate, nat_le, nat_lt}
+use Rattle.std.specs.Prelude.{None, Option, Some}
 use Rattle.endpoint.specs.declared.Settings.{Settings}
 use Rattle.endpoint.specs.declared.State.{State}
 use Rattle.endpoint.specs.declared.State.TheVariants.{Refresh, Terminate}
 use Rattle.endpoint.specs.declared.Queue.TheVariants.{Empty}
-use Rattle.endpoint.specs.declared.Timestamp.{Timestamp}
-use Rattle.endpoint.specs.declared.Timestamp.TheVariants.{Never, At}
 use Rattle.endpoint.specs.Endpoint.{Value, Endpoint, value_of}
 use Rattle.endpoint.specs.Table.{is_state, is_setup}
 use Rattle.endpoint.specs.Updates.{in_state, with_queue, holding}
@@ -39,9 +38,9 @@ abbrev pub age_of : Endpoint → ℕ → ℕ → ℕ
 age_of e t stamp = minus (time_of e t) stamp
 
 -- a timestamp above the one remembered, if any
-abbrev pub is_above : Timestamp → ℕ → Bool
-is_above Never s = true
-is_above (At last) s = nat_lt last s
+abbrev pub is_above : Option ℕ → ℕ → Bool
+is_above None s = true
+is_above (Some last) s = nat_lt last s
 
 -- an age of 2^47 or more means that the timestamp is ahead, by what is missing to 2^48
 abbrev pub is_ahead : ℕ → Bool

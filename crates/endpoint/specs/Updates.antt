@@ -1,11 +1,9 @@
 -- An endpoint with a part of it changed, the others as they were.
 use Rattle.std.specs.Prelude.{ℕ, Bool}
-use Rattle.frame.specs.declared.Subconnection.{Subconnection}
+use Rattle.std.specs.Prelude.{Option, Some}
 use Rattle.endpoint.specs.declared.Settings.{Settings}
 use Rattle.endpoint.specs.declared.State.{State}
-use Rattle.endpoint.specs.declared.Timestamp.TheVariants.{At}
 use Rattle.endpoint.specs.declared.Timestamps.{Timestamps}
-use Rattle.endpoint.specs.declared.Pending.{Pending}
 use Rattle.endpoint.specs.declared.Queue.{Queue}
 use Rattle.endpoint.specs.declared.Setup.{Setup}
 use Rattle.endpoint.specs.declared.Measurement.{Measurement}
@@ -13,7 +11,7 @@ use Rattle.endpoint.specs.declared.Station.{Station}
 use Rattle.endpoint.specs.Endpoint.{Value, Words}
 use Rattle.endpoint.specs.Endpoint.{Endpoint}
 
-abbrev pub endpoint_of : Settings → State → Subconnection → ℕ → Timestamps → Setup → Measurement → Station → Words
+abbrev pub endpoint_of : Settings → State → Option ℕ → ℕ → Timestamps → Setup → Measurement → Station → Words
     → Words → Value → Endpoint
 endpoint_of settings state session since timestamps setup measurement station words errorinfo value = record {
   settings = settings;
@@ -40,7 +38,7 @@ timed_from t e =
     endpoint_of e.settings e.state e.session t e.timestamps e.setup e.measurement e.station e.words e.errorinfo
     e.value
 
-abbrev pub with_session : Subconnection → Endpoint → Endpoint
+abbrev pub with_session : Option ℕ → Endpoint → Endpoint
 with_session n e =
     endpoint_of e.settings e.state n e.since e.timestamps e.setup e.measurement e.station e.words e.errorinfo
     e.value
@@ -52,12 +50,12 @@ with_timestamps ts e =
 
 -- this timestamp is remembered as the last sent, or as the last accepted
 abbrev pub with_sent : ℕ → Endpoint → Endpoint
-with_sent stamp e = with_timestamps (record { sent = At stamp; accepted = e.timestamps.accepted }) e
+with_sent stamp e = with_timestamps (record { sent = Some stamp; accepted = e.timestamps.accepted }) e
 
 abbrev pub with_accepted : ℕ → Endpoint → Endpoint
-with_accepted stamp e = with_timestamps (record { sent = e.timestamps.sent; accepted = At stamp }) e
+with_accepted stamp e = with_timestamps (record { sent = e.timestamps.sent; accepted = Some stamp }) e
 
-abbrev pub with_setup : Pending → ℕ → ℕ → ℕ → Queue → Bool → Endpoint → Endpoint
+abbrev pub with_setup : Option ℕ → ℕ → ℕ → ℕ → Queue → Bool → Endpoint → Endpoint
 with_setup pending measured offset requests queue invoked e =
     endpoint_of e.settings e.state e.session e.since e.timestamps
     (record {
@@ -70,7 +68,7 @@ with_setup pending measured offset requests queue invoked e =
     })
     e.measurement e.station e.words e.errorinfo e.value
 
-abbrev pub with_pending : Pending → Endpoint → Endpoint
+abbrev pub with_pending : Option ℕ → Endpoint → Endpoint
 with_pending p e =
     with_setup p e.setup.measured e.setup.offset e.setup.requests e.setup.queue e.setup.invoked e
 

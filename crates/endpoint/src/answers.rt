@@ -1,48 +1,35 @@
 // Answers: their numbers, and the first refusal that applies.
-ghost use Rattle.std.specs.Prelude.{◌≡◌};
+ghost use Rattle.std.specs.Prelude.{◌≡◌, Err};
 ghost use Rattle.endpoint.specs.Answers.{reason_number, number_of, call_faults, record_faults, setup_faults};
 ghost use Rattle.endpoint.specs.Answers.{value_faults, first_of};
-ghost use Rattle.endpoint.specs.Answers.{is_done, is_dropped, is_ended};
 
-use super::{Answer, Faults, Reason};
+use super::{Answer, Faults, Reason, Refusal};
 
-pub fn reason_number(reason: Reason) -> u8
-    ensures { result ≡ reason_number reason }
-{
-    match reason {
-        Reason::Clock => 1,
-        Reason::Buffer => 2,
-        Reason::Entry => 3,
-        Reason::Length => 4,
-        Reason::Copies => 5,
-        Reason::CheckWord => 6,
-        Reason::Form => 7,
-        Reason::Unknown => 8,
-        Reason::Expired => 9,
-        Reason::Echo => 10,
-        Reason::Turn => 11,
-        Reason::Width => 12,
-        Reason::Repeat => 13,
-        Reason::Ahead => 14,
-        Reason::Late => 15,
-        Reason::Unequal => 16,
-        Reason::TooSoon => 17,
-        Reason::Settings => 18,
-        Reason::Exhausted => 19,
-        Reason::Record => 20,
-        Reason::Session => 21,
+// Document 01's number of a reason.
+impl From<Reason> for u8 {
+    ghost from_gives = { λ reason number. number ≡ reason_number reason };
+
+    fn from(reason: Reason) -> u8 {
+        reason as u8
     }
 }
 
-// Document 01's number of an answer, 0 for done.
+// The number of its reason, whether or not it ends the connection.
+impl From<Refusal> for u8 {
+    ghost from_gives = { λ refusal number. number ≡ number_of (Err refusal) };
+
+    fn from(refusal: Refusal) -> u8 {
+        match refusal {
+            Refusal::Dropped(reason) | Refusal::Ended(reason) => reason.into(),
+        }
+    }
+}
+
+// Document 01's number of an answer, 0 for done. (A number: document 01 has it, and C is told it.)
 pub fn number(answer: Answer) -> u8
     ensures { result ≡ number_of answer }
 {
-    match answer {
-        Answer::Done => 0,
-        Answer::Dropped(reason) => reason_number(reason),
-        Answer::Ended(reason) => reason_number(reason),
-    }
+    answer.map_or_else(u8::from, |()| 0)
 }
 
 // What can refuse a user's call: 11, 12, 19 and 17.
@@ -50,16 +37,11 @@ pub fn call_faults(turn: bool, width: bool, exhausted: bool, soon: bool) -> Faul
     ensures { result ≡ call_faults turn width exhausted soon }
 {
     Faults {
-        turn: turn,
-        session: false,
-        norecord: false,
-        width: width,
-        exhausted: exhausted,
-        repeat: false,
-        ahead: false,
-        late: false,
-        unequal: false,
-        soon: soon,
+        turn,
+        width,
+        exhausted,
+        soon,
+        ..Faults::default()
     }
 }
 
@@ -68,16 +50,9 @@ pub fn record_faults(turn: bool, norecord: bool) -> Faults
     ensures { result ≡ record_faults turn norecord }
 {
     Faults {
-        turn: turn,
-        session: false,
-        norecord: norecord,
-        width: false,
-        exhausted: false,
-        repeat: false,
-        ahead: false,
-        late: false,
-        unequal: false,
-        soon: false,
+        turn,
+        norecord,
+        ..Faults::default()
     }
 }
 
@@ -93,16 +68,13 @@ pub fn setup_faults(
     ensures { result ≡ setup_faults turn session norecord width repeat unequal }
 {
     Faults {
-        turn: turn,
-        session: session,
-        norecord: norecord,
-        width: width,
-        exhausted: false,
-        repeat: repeat,
-        ahead: false,
-        late: false,
-        unequal: unequal,
-        soon: false,
+        turn,
+        session,
+        norecord,
+        width,
+        repeat,
+        unequal,
+        ..Faults::default()
     }
 }
 
@@ -118,16 +90,13 @@ pub fn value_faults(
     ensures { result ≡ value_faults turn session width repeat ahead late }
 {
     Faults {
-        turn: turn,
-        session: session,
-        norecord: false,
-        width: width,
-        exhausted: false,
-        repeat: repeat,
-        ahead: ahead,
-        late: late,
-        unequal: false,
-        soon: false,
+        turn,
+        session,
+        width,
+        repeat,
+        ahead,
+        late,
+        ..Faults::default()
     }
 }
 
@@ -137,64 +106,34 @@ pub fn first_of(f: Faults) -> Answer
     ensures { result ≡ first_of f }
 {
     if f.turn {
-        return Answer::Dropped(Reason::Turn);
+        return Err(Refusal::Dropped(Reason::Turn));
     }
     if f.session {
-        return Answer::Dropped(Reason::Session);
+        return Err(Refusal::Dropped(Reason::Session));
     }
     if f.norecord {
-        return Answer::Dropped(Reason::Record);
+        return Err(Refusal::Dropped(Reason::Record));
     }
     if f.width {
-        return Answer::Dropped(Reason::Width);
+        return Err(Refusal::Dropped(Reason::Width));
     }
     if f.exhausted {
-        return Answer::Ended(Reason::Exhausted);
+        return Err(Refusal::Ended(Reason::Exhausted));
     }
     if f.repeat {
-        return Answer::Dropped(Reason::Repeat);
+        return Err(Refusal::Dropped(Reason::Repeat));
     }
     if f.ahead {
-        return Answer::Dropped(Reason::Ahead);
+        return Err(Refusal::Dropped(Reason::Ahead));
     }
     if f.late {
-        return Answer::Ended(Reason::Late);
+        return Err(Refusal::Ended(Reason::Late));
     }
     if f.unequal {
-        return Answer::Ended(Reason::Unequal);
+        return Err(Refusal::Ended(Reason::Unequal));
     }
     if f.soon {
-        return Answer::Dropped(Reason::TooSoon);
+        return Err(Refusal::Dropped(Reason::TooSoon));
     }
-    Answer::Done
-}
-
-pub fn is_done(answer: Answer) -> bool
-    ensures { result ≡ is_done answer }
-{
-    match answer {
-        Answer::Done => true,
-        Answer::Dropped(_) => false,
-        Answer::Ended(_) => false,
-    }
-}
-
-pub fn is_dropped(answer: Answer) -> bool
-    ensures { result ≡ is_dropped answer }
-{
-    match answer {
-        Answer::Done => false,
-        Answer::Dropped(_) => true,
-        Answer::Ended(_) => false,
-    }
-}
-
-pub fn is_ended(answer: Answer) -> bool
-    ensures { result ≡ is_ended answer }
-{
-    match answer {
-        Answer::Done => false,
-        Answer::Dropped(_) => false,
-        Answer::Ended(_) => true,
-    }
+    Ok(())
 }

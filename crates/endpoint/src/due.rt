@@ -1,15 +1,15 @@
 // The request due from a master, what can hold it back, whether a command may be queued, and what holds a station's
 // reply back; in Refresh the measurement that is due, or under way.
-ghost use Rattle.std.specs.Prelude.{◌≡◌, ◌-◌};
+ghost use Rattle.std.specs.Prelude.{◌≡◌};
+ghost use Rattle.std.specs.Bool.{then_some};
 ghost use Rattle.endpoint.specs.Endpoint.{bare};
-ghost use Rattle.endpoint.specs.Due.{is_waiting, is_empty, queued_in, is_command_due, request_due, is_pending, answers_to};
-ghost use Rattle.endpoint.specs.Due.{may_request, is_exhausted, may_queue, may_queue_read, is_held_back, refresh_due};
-ghost use Rattle.endpoint.specs.Due.{last_step, is_late, is_open, awaited_in, sequence_of, is_measuring};
+ghost use Rattle.endpoint.specs.Due.{is_waiting, queued_in, is_command_due, request_due, may_request, is_exhausted};
+ghost use Rattle.endpoint.specs.Due.{may_queue, may_queue_read, is_held_back, refresh_due, is_late, is_open, awaited_in};
+ghost use Rattle.endpoint.specs.Due.{sequence_of, is_measuring};
 
-use super::table::{is_setup, is_state, request_of};
-use super::{Core, Pending, Queue, State};
+use super::{Core, Queue, State};
 use frame::Command;
-use frame::control::{is, waits_for_station};
+use frame::control::waits_for_station;
 
 // A start writes at most so many requests.
 const REQUEST_LIMIT: u8 = 45;
@@ -17,206 +17,130 @@ const REQUEST_LIMIT: u8 = 45;
 // A master measures again so many ticks after its last S-RefreshMO, or after entry into Refresh.
 const MEASUREMENT_INTERVAL: u64 = 10000;
 
-pub fn is_waiting(queue: Queue) -> bool
-    ensures { result ≡ is_waiting queue }
-{
-    match queue {
-        Queue::Empty => false,
-        Queue::InvokeFunc => true,
-        Queue::ReadErrorInfo => true,
-        Queue::WriteErrorInfo => true,
-        Queue::Closed => false,
+impl Queue {
+    // The command that waits.
+    fn waiting(self) -> Option<Command>
+        ensures { result ≡ then_some (is_waiting self) (queued_in self) }
+    {
+        match self {
+            Queue::InvokeFunc => Some(Command::InvokeFunc),
+            Queue::ReadErrorInfo => Some(Command::ReadErrorInfo),
+            Queue::WriteErrorInfo => Some(Command::WriteErrorInfo),
+            Queue::Empty | Queue::Closed => None,
+        }
     }
 }
 
-fn is_empty(queue: Queue) -> bool
-    ensures { result ≡ is_empty queue }
-{
-    match queue {
-        Queue::Empty => true,
-        Queue::InvokeFunc => false,
-        Queue::ReadErrorInfo => false,
-        Queue::WriteErrorInfo => false,
-        Queue::Closed => false,
+impl Core {
+    // Whether the queued command stands in S-RefreshReady's place.
+    pub fn is_command_due(&self) -> bool
+        ensures { result ≡ is_command_due (bare self.now) }
+    {
+        self.setup.queue.waiting().is_some() && self.state.request() == Command::RefreshReady
     }
-}
 
-// The command that waits, or S-RefreshReady, in whose place it goes.
-fn queued_in(queue: Queue) -> Command
-    ensures { result ≡ queued_in queue }
-{
-    match queue {
-        Queue::Empty => Command::RefreshReady,
-        Queue::InvokeFunc => Command::InvokeFunc,
-        Queue::ReadErrorInfo => Command::ReadErrorInfo,
-        Queue::WriteErrorInfo => Command::WriteErrorInfo,
-        Queue::Closed => Command::RefreshReady,
+    // The request that a master sends next, or that is pending.
+    pub fn request_due(&self) -> Command
+        ensures { result ≡ request_due (bare self.now) }
+    {
+        match (self.state.request(), self.setup.queue.waiting()) {
+            (Command::RefreshReady, Some(command)) => command,
+            (request, _) => request,
+        }
     }
-}
 
-// Whether the queued command stands in S-RefreshReady's place.
-pub fn is_command_due(e: Core) -> bool
-    ensures { result ≡ is_command_due (bare e) }
-{
-    let state = e.state;
-    let setup = e.setup;
-    let queue = setup.queue;
-    is_waiting(queue) & is(request_of(state), Command::RefreshReady)
-}
-
-// The request that a master sends next, or that is pending.
-pub fn request_due(e: Core) -> Command
-    ensures { result ≡ request_due (bare e) }
-{
-    if is_command_due(e) {
-        let setup = e.setup;
-        let queue = setup.queue;
-        return queued_in(queue);
+    // Whether a master may send the request due.
+    pub fn may_request(&self) -> bool
+        ensures { result ≡ may_request (bare self.now) }
+    {
+        !self.settings.slave && self.state.is_setup() && self.setup.pending.is_none()
     }
-    let state = e.state;
-    request_of(state)
-}
 
-pub fn is_pending(pending: Pending) -> bool
-    ensures { result ≡ is_pending pending }
-{
-    match pending {
-        Pending::Nothing => false,
-        Pending::Asked(_) => true,
+    // Whether a further request would be one too many.
+    pub fn is_exhausted(&self) -> bool
+        ensures { result ≡ is_exhausted (bare self.now) }
+    {
+        REQUEST_LIMIT <= self.setup.requests
     }
-}
 
-// Whether the pending request has this timestamp.
-pub fn answers_to(pending: Pending, stamp: u64) -> bool
-    ensures { result ≡ answers_to pending stamp }
-{
-    match pending {
-        Pending::Nothing => false,
-        Pending::Asked(asked) => asked == stamp,
+    // Whether a master's user may queue a command.
+    pub fn may_queue(&self) -> bool
+        ensures { result ≡ may_queue (bare self.now) }
+    {
+        !self.settings.slave && self.state.is_setup() && self.setup.queue == Queue::Empty
     }
-}
 
-// Whether a master may send the request due.
-pub fn may_request(e: Core) -> bool
-    ensures { result ≡ may_request (bare e) }
-{
-    let state = e.state;
-    let setup = e.setup;
-    let pending = setup.pending;
-    !e.settings.slave & (is_setup(state) & !is_pending(pending))
-}
-
-// Whether a further request would be one too many.
-pub fn is_exhausted(e: Core) -> bool
-    ensures { result ≡ is_exhausted (bare e) }
-{
-    REQUEST_LIMIT <= e.setup.requests
-}
-
-// Whether a master's user may queue a command.
-pub fn may_queue(e: Core) -> bool
-    ensures { result ≡ may_queue (bare e) }
-{
-    let state = e.state;
-    let setup = e.setup;
-    let queue = setup.queue;
-    !e.settings.slave & (is_setup(state) & is_empty(queue))
-}
-
-// Whether it may queue S-ReadErrorInfo.
-pub fn may_queue_read(e: Core) -> bool
-    ensures { result ≡ may_queue_read (bare e) }
-{
-    may_queue(e) & !e.setup.invoked
-}
-
-// Whether a slave's reply to a command has Busy 1 because the station is not ready.
-pub fn is_held_back(e: Core, k: Command) -> bool
-    ensures { result ≡ is_held_back (bare e) k }
-{
-    e.station.notready & waits_for_station(k)
-}
-
-// Ticks from since to clock, 0 where clock is below.
-pub fn passed(clock: u64, since: u64) -> u64
-    ensures { result ≡ clock - since }
-{
-    if clock < since { 0 } else { clock - since }
-}
-
-// When a measurement's last step was taken.
-fn last_step(pending: Pending, measured: u64) -> u64
-    ensures { result ≡ last_step pending measured }
-{
-    match pending {
-        Pending::Nothing => measured,
-        Pending::Asked(stamp) => stamp,
+    // Whether it may queue S-ReadErrorInfo.
+    pub fn may_queue_read(&self) -> bool
+        ensures { result ≡ may_queue_read (bare self.now) }
+    {
+        self.may_queue() && !self.setup.invoked
     }
-}
 
-// Whether the next step of a measurement is late, so that it is none.
-pub fn is_late(e: Core, clock: u64) -> bool
-    ensures { result ≡ is_late (bare e) clock }
-{
-    let setup = e.setup;
-    let pending = setup.pending;
-    let last = last_step(pending, setup.measured);
-    (e.settings.roundtrip as u64) < passed(clock, last)
-}
-
-// Whether a master has a measurement open.
-fn is_open(e: Core, clock: u64) -> bool
-    ensures { result ≡ is_open (bare e) clock }
-{
-    let setup = e.setup;
-    let pending = setup.pending;
-    (is_pending(pending) | e.measurement.answered) & !is_late(e, clock)
-}
-
-// What a send in Refresh writes.
-pub fn refresh_due(e: Core, clock: u64) -> Command
-    ensures { result ≡ refresh_due (bare e) clock }
-{
-    if e.settings.slave {
-        return Command::Refresh;
+    // Whether a slave's reply to a command has Busy 1 because the station is not ready.
+    pub fn is_held_back(&self, k: Command) -> bool
+        ensures { result ≡ is_held_back (bare self.now) k }
+    {
+        self.station.notready && waits_for_station(k)
     }
-    if is_open(e, clock) {
-        let setup = e.setup;
-        let pending = setup.pending;
-        if is_pending(pending) {
+
+    // Whether the next step of a measurement is late, so that it is none. Its last step was taken at the stamp of the
+    // pending request, else where s2 or m2 was.
+    pub fn is_late(&self, clock: u64) -> bool
+        ensures { result ≡ is_late (bare self.now) clock }
+    {
+        let last = self.setup.pending.unwrap_or(self.setup.measured);
+        u64::from(self.settings.roundtrip) < clock.saturating_sub(last)
+    }
+
+    // Whether a master has a measurement open.
+    fn is_open(&self, clock: u64) -> bool
+        ensures { result ≡ is_open (bare self.now) clock }
+    {
+        (self.setup.pending.is_some() || self.measurement.answered) && !self.is_late(clock)
+    }
+
+    // What a send in Refresh writes.
+    pub fn refresh_due(&self, clock: u64) -> Command
+        ensures { result ≡ refresh_due (bare self.now) clock }
+    {
+        if self.settings.slave {
             return Command::Refresh;
         }
-        return Command::RefreshGo;
+        if self.is_open(clock) {
+            return match self.setup.pending {
+                Some(_) => Command::Refresh,
+                None => Command::RefreshGo,
+            };
+        }
+        if MEASUREMENT_INTERVAL <= clock.saturating_sub(self.measurement.reference) {
+            return Command::RefreshMo;
+        }
+        Command::Refresh
     }
-    if MEASUREMENT_INTERVAL <= passed(clock, e.measurement.reference) {
-        return Command::RefreshMo;
+
+    // Whose reply a master awaits in Refresh, if any is pending.
+    pub fn awaited_in(&self) -> Command
+        ensures { result ≡ awaited_in (bare self.now) }
+    {
+        if self.measurement.answered {
+            Command::RefreshGo
+        } else {
+            Command::RefreshMo
+        }
     }
-    Command::Refresh
-}
 
-// Whose reply a master awaits in Refresh, if any is pending.
-pub fn awaited_in(e: Core) -> Command
-    ensures { result ≡ awaited_in (bare e) }
-{
-    if e.measurement.answered {
-        return Command::RefreshGo;
+    // Offset op seq of the measurement under way.
+    pub fn sequence_of(&self) -> bool
+        ensures { result ≡ sequence_of (bare self.now) }
+    {
+        self.state == State::Refresh && self.measurement.sequence
     }
-    Command::RefreshMo
-}
 
-// Offset op seq of the measurement under way.
-pub fn sequence_of(e: Core) -> bool
-    ensures { result ≡ sequence_of (bare e) }
-{
-    let state = e.state;
-    is_state(state, State::Refresh) & e.measurement.sequence
-}
-
-// Whether a slave that may take S-RefreshGO has a measurement under way.
-pub fn is_measuring(e: Core, clock: u64) -> bool
-    ensures { result ≡ is_measuring (bare e) clock }
-{
-    let state = e.state;
-    let late = is_late(e, clock);
-    !is_state(state, State::Refresh) | (e.measurement.answered & !late)
+    // Whether a slave that may take S-RefreshGO has a measurement under way.
+    pub fn is_measuring(&self, clock: u64) -> bool
+        ensures { result ≡ is_measuring (bare self.now) clock }
+    {
+        self.state != State::Refresh || (self.measurement.answered && !self.is_late(clock))
+    }
 }

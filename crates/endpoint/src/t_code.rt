@@ -14,7 +14,7 @@ fn lower(x: u64) -> u16
 fn wrapped(from: u16, to: u16) -> u16
     ensures { result ≡ wrapped from to }
 {
-    if to < from { 1 } else { 0 }
+    u16::from(to < from)
 }
 
 // The master's clock as a slave reckons it, when it sends (12.7.1.4) and when it receives (12.7.2.6). Clock is the slave's
@@ -25,10 +25,9 @@ pub fn slave_time(clock: u64, offset: u64) -> u64
     // T code = (sending_time + ts_offset) mod 2^16: equation (1), and (8) and (9)
     let sending_time = lower(clock);
     let ts_offset = lower(offset);
-    let t_code = std::num::wrapping_add_u16(sending_time, ts_offset);
+    let t_code = sending_time.wrapping_add(ts_offset);
     // CC: the upper 32 bits, with the carry, mod 2^32
-    let carry = wrapped(sending_time, t_code);
-    let cc = std::num::wrapping_add_u64(clock / 65536, offset / 65536 + (carry as u64))
-        % 4294967296;
-    65536 * cc + (t_code as u64)
+    let carry = u64::from(wrapped(sending_time, t_code));
+    let cc = (clock / 65536).wrapping_add(offset / 65536 + carry) % 4294967296;
+    65536 * cc + u64::from(t_code)
 }

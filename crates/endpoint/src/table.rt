@@ -1,156 +1,148 @@
 // The table of states against commands, laid out like 001's table 40: a row a state, and what is read off it.
 ghost use Rattle.std.specs.Prelude.{◌≡◌, ◌<◌};
-ghost use Rattle.endpoint.specs.Table.{row_of, column_of, is_state, is_setup, is_terminated, next_of, is_no, state_to};
-ghost use Rattle.endpoint.specs.Table.{request_of};
+ghost use Rattle.endpoint.specs.Table.{row_of, column_of, is_setup, is_terminated, next_of, request_of};
 
-use super::{Next, State};
+use super::State;
 use frame::Command;
 
 // In each row: Connect, ConfirmNetwork, VerifyStation, InvokeFunc, ReadErrorInfo, WriteErrorInfo, RefreshReady, RefreshMo,
 // RefreshGo, Refresh, Disconnect. Beside what leads somewhere its transition in table 40, or 01 or 02 where that document alone has it.
 // Where more error records follow, WriteErrorInfo leads to TerminateMore (the crate transitions).
-const NEXT: [Next; 110] = [
+static NEXT: [[Option<State>; 11]; 10] = [
     // Close
-    Next::To(State::EstablishPending), // ST1
-    Next::No,
-    Next::No,
-    Next::No,
-    Next::No,
-    Next::No,
-    Next::No,
-    Next::No,
-    Next::No,
-    Next::No,
-    Next::No,
+    [
+        Some(State::EstablishPending), // ST1
+        None,
+        None,
+        None,
+        None,
+        None,
+        None,
+        None,
+        None,
+        None,
+        None,
+    ],
     // Starting, a master's alone
-    Next::To(State::EstablishPending), // the reply to its first request
-    Next::No,
-    Next::No,
-    Next::No,
-    Next::No,
-    Next::No,
-    Next::No,
-    Next::No,
-    Next::No,
-    Next::No,
-    Next::To(State::Terminate), // 01
+    [
+        Some(State::EstablishPending), // the reply to its first request
+        None,
+        None,
+        None,
+        None,
+        None,
+        None,
+        None,
+        None,
+        None,
+        Some(State::Terminate), // 01
+    ],
     // EstablishPending
-    Next::To(State::EstablishPending), // ST25
-    Next::To(State::Establish), // ST2
-    Next::No,
-    Next::No,
-    Next::No,
-    Next::To(State::Terminate), // ST28, ST29
-    Next::No,
-    Next::No,
-    Next::No,
-    Next::No,
-    Next::To(State::Terminate), // 01
+    [
+        Some(State::EstablishPending), // ST25
+        Some(State::Establish), // ST2
+        None,
+        None,
+        None,
+        Some(State::Terminate), // ST28, ST29
+        None,
+        None,
+        None,
+        None,
+        Some(State::Terminate), // 01
+    ],
     // Establish
-    Next::No,
-    Next::No,
-    Next::To(State::ParamVerify), // ST4
-    Next::No,
-    Next::No,
-    Next::To(State::Terminate), // ST31, ST32
-    Next::No,
-    Next::No,
-    Next::No,
-    Next::No,
-    Next::To(State::Terminate), // 01
+    [
+        None,
+        None,
+        Some(State::ParamVerify), // ST4
+        None,
+        None,
+        Some(State::Terminate), // ST31, ST32
+        None,
+        None,
+        None,
+        None,
+        Some(State::Terminate), // 01
+    ],
     // ParamVerify
-    Next::No,
-    Next::No,
-    Next::No,
-    Next::To(State::FuncRunning), // ST7, ST8
-    Next::To(State::ParamVerify), // 02
-    Next::To(State::Terminate), // ST34, ST35
-    Next::To(State::RefreshPending), // ST6
-    Next::No,
-    Next::No,
-    Next::No,
-    Next::To(State::Terminate), // 01
+    [
+        None,
+        None,
+        None,
+        Some(State::FuncRunning), // ST7, ST8
+        Some(State::ParamVerify), // 02
+        Some(State::Terminate), // ST34, ST35
+        Some(State::RefreshPending), // ST6
+        None,
+        None,
+        None,
+        Some(State::Terminate), // 01
+    ],
     // FuncRunning, a slave's alone
-    Next::No,
-    Next::No,
-    Next::No,
-    Next::To(State::FuncRunning), // ST10, ST11
-    Next::No, // in ParamVerify only: 02
-    Next::To(State::Terminate), // ST37, ST38
-    Next::To(State::RefreshPending), // ST12
-    Next::No,
-    Next::No,
-    Next::No,
-    Next::To(State::Terminate), // 01
+    [
+        None,
+        None,
+        None,
+        Some(State::FuncRunning), // ST10, ST11
+        None, // in ParamVerify only: 02
+        Some(State::Terminate), // ST37, ST38
+        Some(State::RefreshPending), // ST12
+        None,
+        None,
+        None,
+        Some(State::Terminate), // 01
+    ],
     // RefreshPending
-    Next::No,
-    Next::No,
-    Next::No,
-    Next::No,
-    Next::No,
-    Next::To(State::Terminate), // ST39, ST40
-    Next::No,
-    Next::No,
-    Next::To(State::Refresh), // ST14
-    Next::No,
-    Next::To(State::Terminate), // 01
+    [
+        None,
+        None,
+        None,
+        None,
+        None,
+        Some(State::Terminate), // ST39, ST40
+        None,
+        None,
+        Some(State::Refresh), // ST14
+        None,
+        Some(State::Terminate), // 01
+    ],
     // Refresh
-    Next::No,
-    Next::No,
-    Next::No,
-    Next::No,
-    Next::No,
-    Next::No,
-    Next::No,
-    Next::To(State::Refresh), // ST17
-    Next::To(State::Refresh), // ST18
-    Next::To(State::Refresh), // 01
-    Next::To(State::Terminate), // 01
+    [
+        None,
+        None,
+        None,
+        None,
+        None,
+        None,
+        None,
+        Some(State::Refresh), // ST17
+        Some(State::Refresh), // ST18
+        Some(State::Refresh), // 01
+        Some(State::Terminate), // 01
+    ],
     // Terminate
-    Next::No,
-    Next::No,
-    Next::No,
-    Next::No,
-    Next::No,
-    Next::No, // in TerminateMore only: 02
-    Next::No,
-    Next::No,
-    Next::No,
-    Next::No,
-    Next::No,
+    [
+        None, None, None, None, None, None, // in TerminateMore only: 02
+        None, None, None, None, None,
+    ],
     // TerminateMore, a slave's alone
-    Next::No,
-    Next::No,
-    Next::No,
-    Next::No,
-    Next::No,
-    Next::To(State::Terminate), // ST21, ST44
-    Next::No,
-    Next::No,
-    Next::No,
-    Next::No,
-    Next::No,
+    [
+        None,
+        None,
+        None,
+        None,
+        None,
+        Some(State::Terminate), // ST21, ST44
+        None,
+        None,
+        None,
+        None,
+        None,
+    ],
 ];
 
-// A state's row.
-fn row(s: State) -> usize
-    ensures { (result ≡ row_of s) × (result < 10) }
-{
-    match s {
-        State::Close => 0,
-        State::Starting => 1,
-        State::EstablishPending => 2,
-        State::Establish => 3,
-        State::ParamVerify => 4,
-        State::FuncRunning => 5,
-        State::RefreshPending => 6,
-        State::Refresh => 7,
-        State::Terminate => 8,
-        State::TerminateMore => 9,
-    }
-}
-
-// A command's column.
+// A command's column. An arm each: the columns stand as in table 40 (`column_of`), the variants by their codes.
 fn column(k: Command) -> usize
     ensures { (result ≡ column_of k) × (result < 11) }
 {
@@ -169,77 +161,57 @@ fn column(k: Command) -> usize
     }
 }
 
-pub fn is_state(a: State, b: State) -> bool
-    ensures { result ≡ is_state a b }
-{
-    row(a) == row(b)
-}
-
-// Setup is all between Close and Refresh.
-pub fn is_setup(s: State) -> bool
-    ensures { result ≡ is_setup s }
-{
-    match s {
-        State::Close => false,
-        State::Starting => true,
-        State::EstablishPending => true,
-        State::Establish => true,
-        State::ParamVerify => true,
-        State::FuncRunning => true,
-        State::RefreshPending => true,
-        State::Refresh => false,
-        State::Terminate => false,
-        State::TerminateMore => false,
+impl State {
+    // Its row: the variants stand in the order of the rows.
+    fn row(self) -> usize
+        ensures { (result ≡ row_of self) × (result < 10) }
+    {
+        self as usize
     }
-}
 
-// Terminate, whether or not more error records follow.
-pub fn is_terminated(s: State) -> bool
-    ensures { result ≡ is_terminated s }
-{
-    is_state(s, State::Terminate) | is_state(s, State::TerminateMore)
-}
-
-// Where a command leads from a state.
-pub fn next_state(k: Command, s: State) -> Next
-    ensures { result ≡ next_of k s }
-{
-    let i = row(s) * 11 + column(k);
-    NEXT[i]
-}
-
-pub fn is_no(next: Next) -> bool
-    ensures { result ≡ is_no next }
-{
-    match next {
-        Next::To(_) => false,
-        Next::No => true,
+    // Setup is all between Close and Refresh.
+    pub fn is_setup(self) -> bool
+        ensures { result ≡ is_setup self }
+    {
+        matches!(
+            self,
+            State::Starting
+                | State::EstablishPending
+                | State::Establish
+                | State::ParamVerify
+                | State::FuncRunning
+                | State::RefreshPending
+        )
     }
-}
 
-pub fn state_to(next: Next, last: State) -> State
-    ensures { result ≡ state_to next last }
-{
-    match next {
-        Next::To(s) => s,
-        Next::No => last,
+    // Terminate, whether or not more error records follow.
+    pub fn is_terminated(self) -> bool
+        ensures { result ≡ is_terminated self }
+    {
+        matches!(self, State::Terminate | State::TerminateMore)
     }
-}
 
-// The request that is due from a master in a setup state; in Refresh S-RefreshMO.
-pub fn request_of(s: State) -> Command
-    ensures { result ≡ request_of s }
-{
-    match s {
-        State::Close => Command::Connect,
-        State::Starting => Command::Connect,
-        State::EstablishPending => Command::ConfirmNetwork,
-        State::Establish => Command::VerifyStation,
-        State::ParamVerify => Command::RefreshReady,
-        State::FuncRunning => Command::RefreshReady,
-        State::RefreshPending => Command::RefreshGo,
-        State::Refresh => Command::RefreshMo,
-        State::Terminate => Command::Connect,
-        State::TerminateMore => Command::Connect,
+    // Where a command leads from a state. That the table is the definition's is computed once for all entries.
+    #[tactic(auto, using(crate::proofs::Entries::entry))]
+    pub fn next_state(self, k: Command) -> Option<State>
+        ensures { result ≡ next_of k self }
+    {
+        NEXT[self.row()][column(k)]
+    }
+
+    // The request that is due from a master in a setup state; in Refresh S-RefreshMO.
+    pub fn request(self) -> Command
+        ensures { result ≡ request_of self }
+    {
+        match self {
+            State::EstablishPending => Command::ConfirmNetwork,
+            State::Establish => Command::VerifyStation,
+            State::ParamVerify | State::FuncRunning => Command::RefreshReady,
+            State::RefreshPending => Command::RefreshGo,
+            State::Refresh => Command::RefreshMo,
+            State::Close | State::Starting | State::Terminate | State::TerminateMore => {
+                Command::Connect
+            }
+        }
     }
 }

@@ -1,19 +1,18 @@
 -- Details in bytes and back, and the zeros after them.
 use mathlib.Core.Path.{◌≡◌, refl, sym, ap, ap₂, ◌∙◌}
-use mathlib.Core.Bool.{true, ◌&&◌}
+use mathlib.Core.Bool.{true}
 use mathlib.Core.List.{List, [], ◌∷◌, ◌++◌}
 use mathlib.Mathlib.Data.Bool.Basic.{and_elim_left, and_elim_right}
-use Prim.Native.Nat.{ℕ, zero, suc, ◌+◌, ◌-◌, ◌*◌, ◌≤◌, ◌<◌}
-use native.Mathlib.Numerals.{add-one}
+use Prim.Native.Nat.{ℕ, zero, suc, ◌+◌, ◌*◌, ◌≤◌}
 use native.Mathlib.Omega.{arith}
 use lib.Dec.{eqb}
-use lib.ListN.{length, get_or, take, drop, set, replicate, drop_of_length-le}
-use lib.Seq.{take-add, drop-drop, drop-cons, set_at, append_snoc}
+use lib.ListN.{length, take, drop, replicate}
+use lib.Seq.{take-add, drop-drop}
 use borrow.Author.Tests.{eqb-true}
 use Rattle.words.specs.Bytes.{Bytes}
 use Rattle.words.specs.Words.{word_at, word_bytes}
 use Rattle.words.proofs.Words.{of_word, word_from, word_back}
-use Rattle.errors.specs.Reading.{words_in, details_in}
+use Rattle.errors.specs.Reading.{words_in}
 use Rattle.errors.specs.Writing.{are_zero, words_bytes}
 
 pub length_words_in : (b : List ℕ) (k n : ℕ) → length (words_in b k n) ≡ n
@@ -55,31 +54,3 @@ zeros (v ∷ s) h =
 pub are_zero_law : (n : ℕ) → are_zero (replicate n 0) ≡ true
 are_zero_law zero = refl
 are_zero_law (suc n) = are_zero_law n
-
--- ---- the loop of `details_in`: a word more takes the place of a zero
-words_more : (b : List ℕ) (k n : ℕ) → words_in b k (suc n) ≡ words_in b k n ++ (word_at b (k + 4 * n) ∷ [])
-words_more b k zero =
-    let e : k ≡ k + 4 * 0 = omega arith in
-    ap (λ (j : ℕ). word_at b j ∷ []) e
-words_more b k (suc n) =
-    let e : k + 4 + 4 * n ≡ k + 4 * suc n = omega arith in
-    ap (λ (s : List ℕ). word_at b k ∷ s)
-    (words_more b (k + 4) n ∙ ap (λ (j : ℕ). words_in b (k + 4) n ++ (word_at b j ∷ [])) e)
-
-pub turn : (b : List ℕ) (i : ℕ) → i < 10 → set (details_in b i) i (word_at b (12 + 4 * i)) ≡ details_in b (i + 1)
-turn b i h =
-    let v : ℕ = word_at b (12 + 4 * i) in
-    let e : 10 - i ≡ suc (10 - (i + 1)) = omega arith in
-    ap (λ (m : ℕ). set (words_in b 12 i ++ replicate m 0) i v) e
-    ∙ set_at (words_in b 12 i) 0 (replicate (10 - (i + 1)) 0) v i (length_words_in b 12 i)
-    ∙ sym (append_snoc (words_in b 12 i) v (replicate (10 - (i + 1)) 0))
-    ∙ ap (λ (s : List ℕ). s ++ replicate (10 - (i + 1)) 0)
-    (sym (words_more b 12 i) ∙ ap (words_in b 12) (sym (add-one i)))
-
--- ---- the loop of `are_zero`
-pub zero_turn : (s : List ℕ) (i : ℕ) → i < length s
-    → are_zero (drop i s) ≡ (eqb (get_or s i 0) 0 && are_zero (drop (i + 1) s))
-zero_turn s i h = rw (add-one, drop-cons s i 0)
-
-pub zero_end : (s : List ℕ) (i : ℕ) → length s ≤ i → are_zero (drop i s) ≡ true
-zero_end s i h = ap are_zero (drop_of_length-le s h)

@@ -52,9 +52,9 @@ time h m s t =
 
 -- ---- a valid record
 pub record Valid (x : ErrorRecord) : Type 0 where
-  pub year : x.year ≤ 9999
-  pub date : is_date x.year x.month x.day ≡ true
-  pub time : is_time x.hour x.minute x.second ≡ true
+  pub year : x.date.year ≤ 9999
+  pub date : is_date x.date.year x.date.month x.date.day ≡ true
+  pub time : is_time x.time.hour x.time.minute x.time.second ≡ true
   pub weekday : x.weekday ≤ 6
   pub count : x.count ≤ 10
   pub rest : are_zero (drop x.count x.details) ≡ true
@@ -62,14 +62,14 @@ pub record Valid (x : ErrorRecord) : Type 0 where
 pub valid : (x : ErrorRecord) → is_valid x ≡ true → Valid x
 unfolding is_valid
 valid x h =
-    let a = and_elim_right (leb x.year 9999) _ h in
-    let b = and_elim_right (is_date x.year x.month x.day) _ a in
-    let c = and_elim_right (is_time x.hour x.minute x.second) _ b in
+    let a = and_elim_right (leb x.date.year 9999) _ h in
+    let b = and_elim_right (is_date x.date.year x.date.month x.date.day) _ a in
+    let c = and_elim_right (is_time x.time.hour x.time.minute x.time.second) _ b in
     let d = and_elim_right (leb x.weekday 6) _ c in
     record {
-      year = leb-true x.year 9999 (and_elim_left (leb x.year 9999) _ h);
-      date = and_elim_left (is_date x.year x.month x.day) _ a;
-      time = and_elim_left (is_time x.hour x.minute x.second) _ b;
+      year = leb-true x.date.year 9999 (and_elim_left (leb x.date.year 9999) _ h);
+      date = and_elim_left (is_date x.date.year x.date.month x.date.day) _ a;
+      time = and_elim_left (is_time x.time.hour x.time.minute x.time.second) _ b;
       weekday = leb-true x.weekday 6 (and_elim_left (leb x.weekday 6) _ c);
       count = leb-true x.count 10 (and_elim_left (leb x.count 10) _ d);
       rest = and_elim_right (leb x.count 10) _ d;
@@ -132,3 +132,6 @@ accepted b h =
       long = eqb-true (length b) (16 + 4 * count_in b) (and_elim_right (leb (count_in b) 10) _ n);
       flag = leb-true (flag_in b) 1 (and_elim_right (has_count b) _ r4);
     }
+
+pub count_le : (b : List ℕ) → is_record b ≡ true → count_in b ≤ 10
+count_le b h = (accepted b h).count

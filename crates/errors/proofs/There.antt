@@ -33,11 +33,11 @@ module _ (x : ErrorRecord) (t : Typed x) (h : is_valid x ≡ true) where
   v : Valid x
   v = valid x h
 
-  on : Date x.month x.day
-  on = date x.year x.month x.day v.date
+  on : Date x.date.month x.date.day
+  on = date x.date.year x.date.month x.date.day v.date
 
-  at : Time x.hour x.minute x.second
-  at = time x.hour x.minute x.second v.time
+  at : Time x.time.hour x.time.minute x.time.second
+  at = time x.time.hour x.time.minute x.time.second v.time
 
   -- the details that are written
   n : ℕ
@@ -59,32 +59,32 @@ module _ (x : ErrorRecord) (t : Typed x) (h : is_valid x ≡ true) where
       omega arith
 
   -- ---- the fields
-  year : year_in (bytes_of x) ≡ x.year
+  year : year_in (bytes_of x) ≡ x.date.year
   unfolding bytes_of date_bytes
   year =
-      let a = decimal_digits (x.year / 100) (omega (arith, v.year)) in
-      let b = decimal_digits (x.year % 100) (omega arith) in
+      let a = decimal_digits (x.date.year / 100) (omega (arith, v.year)) in
+      let b = decimal_digits (x.date.year % 100) (omega arith) in
       omega arith
 
-  month : decimal_at (bytes_of x) 2 ≡ x.month
+  month : decimal_at (bytes_of x) 2 ≡ x.date.month
   unfolding bytes_of date_bytes
-  month = decimal_digits x.month (omega (arith, v, on, at))
+  month = decimal_digits x.date.month (omega (arith, v, on, at))
 
-  day : decimal_at (bytes_of x) 3 ≡ x.day
+  day : decimal_at (bytes_of x) 3 ≡ x.date.day
   unfolding bytes_of date_bytes
-  day = decimal_digits x.day (omega (arith, v, on, at))
+  day = decimal_digits x.date.day (omega (arith, v, on, at))
 
-  hour : decimal_at (bytes_of x) 4 ≡ x.hour
+  hour : decimal_at (bytes_of x) 4 ≡ x.time.hour
   unfolding bytes_of date_bytes
-  hour = decimal_digits x.hour (omega (arith, v, on, at))
+  hour = decimal_digits x.time.hour (omega (arith, v, on, at))
 
-  minute : decimal_at (bytes_of x) 5 ≡ x.minute
+  minute : decimal_at (bytes_of x) 5 ≡ x.time.minute
   unfolding bytes_of date_bytes
-  minute = decimal_digits x.minute (omega (arith, v, on, at))
+  minute = decimal_digits x.time.minute (omega (arith, v, on, at))
 
-  second : decimal_at (bytes_of x) 6 ≡ x.second
+  second : decimal_at (bytes_of x) 6 ≡ x.time.second
   unfolding bytes_of date_bytes
-  second = decimal_digits x.second (omega (arith, v, on, at))
+  second = decimal_digits x.time.second (omega (arith, v, on, at))
 
   weekday : decimal_at (bytes_of x) 7 ≡ x.weekday
   unfolding bytes_of date_bytes
@@ -121,12 +121,8 @@ module _ (x : ErrorRecord) (t : Typed x) (h : is_valid x ≡ true) where
   reads =
       let d = ap (details_in (bytes_of x)) count ∙ details in
       λ i. record {
-        year = year i;
-        month = month i;
-        day = day i;
-        hour = hour i;
-        minute = minute i;
-        second = second i;
+        date = record { year = year i; month = month i; day = day i };
+        time = record { hour = hour i; minute = minute i; second = second i };
         weekday = weekday i;
         count = count i;
         details = d i;
@@ -136,13 +132,13 @@ module _ (x : ErrorRecord) (t : Typed x) (h : is_valid x ≡ true) where
   decimals : has_digits (bytes_of x) ≡ true
   unfolding has_digits bytes_of date_bytes
   decimals =
-      and_intro (are_digits (x.year / 100))
-      (and_intro (are_digits (x.year % 100))
-      (and_intro (are_digits x.month)
-      (and_intro (are_digits x.day)
-      (and_intro (are_digits x.hour)
-      (and_intro (are_digits x.minute)
-      (and_intro (are_digits x.second) (are_digits x.weekday)))))))
+      and_intro (are_digits (x.date.year / 100))
+      (and_intro (are_digits (x.date.year % 100))
+      (and_intro (are_digits x.date.month)
+      (and_intro (are_digits x.date.day)
+      (and_intro (are_digits x.time.hour)
+      (and_intro (are_digits x.time.minute)
+      (and_intro (are_digits x.time.second) (are_digits x.weekday)))))))
 
   pub is : is_record (bytes_of x) ≡ true
   unfolding is_record has_count

@@ -1,8 +1,9 @@
 -- Reading a record (document 02, note 6; number 20): a date and time, the count, the details, and whether more follow.
-use Rattle.std.specs.Prelude.{Bool, true, false, ◌&&◌, cond, List, [], ◌∷◌, ◌++◌, ℕ, zero, suc, ◌+◌, ◌-◌, ◌*◌, eqb, leb, length, get_or, replicate}
+use Rattle.std.specs.Prelude.{Bool, Option, Some, None, ◌&&◌, cond, List, [], ◌∷◌, ◌++◌, ℕ, zero, suc, ◌+◌, ◌-◌, ◌*◌, eqb, leb, length, get_or, replicate}
 use Rattle.words.specs.Words.{word_at}
+use Rattle.errors.specs.declared.Date.{Date}
+use Rattle.errors.specs.declared.Time.{Time}
 use Rattle.errors.specs.declared.ErrorRecord.{ErrorRecord}
-use Rattle.errors.specs.declared.Decoded.{Decoded}
 use Rattle.errors.specs.Bcd.{is_decimal, decimal}
 use Rattle.errors.specs.Calendar.{is_date, is_time}
 
@@ -15,6 +16,12 @@ decimal_at b k = decimal (get_or b k 0)
 
 abbrev pub year_in : List ℕ → ℕ
 year_in b = 100 * decimal_at b 0 + decimal_at b 1
+
+abbrev pub date_in : List ℕ → Date
+date_in b = record { year = year_in b; month = decimal_at b 2; day = decimal_at b 3 }
+
+abbrev pub time_in : List ℕ → Time
+time_in b = record { hour = decimal_at b 4; minute = decimal_at b 5; second = decimal_at b 6 }
 
 -- how many details there are
 abbrev pub count_in : List ℕ → ℕ
@@ -62,39 +69,14 @@ is_record b =
 -- ---- what a record says
 unfoldable pub record_of : List ℕ → ErrorRecord
 record_of b = record {
-  year = year_in b;
-  month = decimal_at b 2;
-  day = decimal_at b 3;
-  hour = decimal_at b 4;
-  minute = decimal_at b 5;
-  second = decimal_at b 6;
+  date = date_in b;
+  time = time_in b;
   weekday = decimal_at b 7;
   count = count_in b;
   details = details_in b (count_in b);
   more = more_follows b;
 }
 
--- zeros
-abbrev pub no_record : ErrorRecord
-no_record = record {
-  year = 0;
-  month = 0;
-  day = 0;
-  hour = 0;
-  minute = 0;
-  second = 0;
-  weekday = 0;
-  count = 0;
-  details = replicate 10 0;
-  more = false;
-}
-
--- what reading finds
-abbrev pub accepted : ErrorRecord → Decoded
-accepted x = record { accepted = true; value = x }
-
-abbrev pub refused : Decoded
-refused = record { accepted = false; value = no_record }
-
-unfoldable pub decoded_of : List ℕ → Decoded
-decoded_of b = cond (is_record b) (accepted (record_of b)) refused
+-- what reading finds: the record, if there is one
+unfoldable pub decoded_of : List ℕ → Option ErrorRecord
+decoded_of b = cond (is_record b) (Some (record_of b)) None

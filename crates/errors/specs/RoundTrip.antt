@@ -1,8 +1,8 @@
 -- Written records read back, and an accepted list of bytes is the only writing of its record.
-use Rattle.std.specs.Prelude.{◌≡◌, true, List, ℕ, ◌+◌, ◌*◌, ◌≤◌, ◌<◌, length, take}
+use Rattle.std.specs.Prelude.{◌≡◌, Some, None, true, false, List, ℕ, ◌+◌, ◌*◌, ◌≤◌, length, take}
 use Rattle.words.specs.Bytes.{Bytes}
 use Rattle.errors.specs.declared.ErrorRecord.{ErrorRecord}
-use Rattle.errors.specs.Reading.{is_record, record_of, more_follows, accepted, decoded_of}
+use Rattle.errors.specs.Reading.{is_record, record_of, more_follows, decoded_of}
 use Rattle.errors.specs.Writing.{is_valid, bytes_of, WriteSays}
 
 -- there is room for ten details
@@ -27,4 +27,6 @@ pub record RoundTrip : Type 0 where
   pub more : (x : ErrorRecord) → Typed x → is_valid x ≡ true → more_follows (bytes_of x) ≡ x.more
   -- what write_record wrote, read_record reads back
   pub written : (x : ErrorRecord) (out out' : List ℕ) (count : ℕ) → Typed x
-      → WriteSays x out out' count → 0 < count → decoded_of (take count out') ≡ accepted x
+      → WriteSays x out out' (Some count) → decoded_of (take count out') ≡ Some x
+  -- what is no record is refused
+  pub refused : (b : List ℕ) → is_record b ≡ false → decoded_of b ≡ None

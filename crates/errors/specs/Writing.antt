@@ -1,5 +1,5 @@
 -- Writing a record over the front of a lent output.
-use Rattle.std.specs.Prelude.{◌≡◌, Bool, true, ◌&&◌, cond, List, [], ◌∷◌, ◌++◌, ℕ, ◌+◌, ◌*◌, ◌/◌, ◌%◌, eqb, leb, length, take, drop}
+use Rattle.std.specs.Prelude.{◌≡◌, Option, Some, None, Bool, true, ◌&&◌, cond, List, [], ◌∷◌, ◌++◌, ℕ, ◌+◌, ◌*◌, ◌/◌, ◌%◌, eqb, leb, length, take, drop}
 use Rattle.words.specs.Words.{word_bytes}
 use Rattle.words.specs.Output.{over}
 use Rattle.errors.specs.declared.ErrorRecord.{ErrorRecord}
@@ -13,17 +13,17 @@ are_zero (v ∷ s) = eqb v 0 && are_zero s
 -- what can be written: the year has four digits, and details past the count are 0
 unfoldable pub is_valid : ErrorRecord → Bool
 is_valid x =
-    leb x.year 9999
-    && (is_date x.year x.month x.day
-    && (is_time x.hour x.minute x.second
+    leb x.date.year 9999
+    && (is_date x.date.year x.date.month x.date.day
+    && (is_time x.time.hour x.time.minute x.time.second
     && (leb x.weekday 6
     && (leb x.count 10 && are_zero (drop x.count x.details)))))
 
 -- date and time
 unfoldable pub date_bytes : ErrorRecord → List ℕ
 date_bytes x =
-    digits (x.year / 100) ∷ digits (x.year % 100) ∷ digits x.month ∷ digits x.day
-    ∷ digits x.hour ∷ digits x.minute ∷ digits x.second ∷ digits x.weekday ∷ []
+    digits (x.date.year / 100) ∷ digits (x.date.year % 100) ∷ digits x.date.month ∷ digits x.date.day
+    ∷ digits x.time.hour ∷ digits x.time.minute ∷ digits x.time.second ∷ digits x.weekday ∷ []
 
 abbrev pub words_bytes : List ℕ → List ℕ
 words_bytes [] = []
@@ -38,11 +38,15 @@ bytes_of x =
     date_bytes x
     ++ (word_bytes x.count ++ (words_bytes (take x.count x.details) ++ word_bytes (flag_of x.more)))
 
--- what is written to an output of `room` bytes: the record; nothing where it is not valid or does not fit
-unfoldable pub written_of : ErrorRecord → ℕ → List ℕ
-written_of x room = cond (is_valid x && leb (16 + 4 * x.count) room) (bytes_of x) []
+-- whether the record is written to an output of `room` bytes
+abbrev pub is_written : ErrorRecord → ℕ → Bool
+is_written x room = is_valid x && leb (16 + 4 * x.count) room
 
--- what write_record answers (the count) and leaves in the output
-pub record WriteSays (x : ErrorRecord) (out out' : List ℕ) (count : ℕ) : Type 0 where
-  pub counted : count ≡ length (written_of x (length out))
+-- what is written: the record; nothing where it is not valid or does not fit
+unfoldable pub written_of : ErrorRecord → ℕ → List ℕ
+written_of x room = cond (is_written x room) (bytes_of x) []
+
+-- what write_record answers (the length, if the record is written) and leaves in the output
+pub record WriteSays (x : ErrorRecord) (out out' : List ℕ) (answer : Option ℕ) : Type 0 where
+  pub answered : answer ≡ cond (is_written x (length out)) (Some (length (bytes_of x))) None
   pub left : out' ≡ over (written_of x (length out)) out

@@ -6,13 +6,7 @@ ghost use Rattle.errors.specs.Bcd.{is_decimal, decimal, digits};
 pub(crate) fn is_decimal(b: u8) -> bool
     ensures { result ≡ is_decimal b }
 {
-    if b / 16 > 9 {
-        return false;
-    }
-    if b % 16 > 9 {
-        return false;
-    }
-    true
+    b / 16 <= 9 && b % 16 <= 9
 }
 
 // The number of the two digits.

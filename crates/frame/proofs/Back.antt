@@ -1,6 +1,9 @@
 -- An accepted list of bytes is what writing its fields gives, and its fields can be written.
-use mathlib.Core.Path.{◌≡◌, refl, sym, ap, ap₂, ◌∙◌, subst}
-use mathlib.Core.Bool.{Bool, true, false, not, cond}
+use mathlib.Core.Path.{◌≡◌, sym, ap, ap₂, ◌∙◌, subst}
+use Rattle.std.specs.Prelude.{Err, Ok}
+use Rattle.frame.specs.Reading.{Reading}
+use Rattle.frame.specs.Reading.{frame_with}
+use mathlib.Core.Bool.{Bool, true, not, cond}
 use mathlib.Core.List.{List, ◌++◌}
 use mathlib.Mathlib.Data.Bool.Basic.{and_elim_left, and_elim_right, and_intro}
 use Prim.Native.Nat.{ℕ, ◌+◌, ◌-◌, ◌/◌, ◌%◌, ◌^◌, ◌≤◌, ◌<◌}
@@ -17,22 +20,20 @@ use Rattle.crc.specs.Crc.{crc}
 use Rattle.frame.specs.declared.Fields.{Fields}
 use Rattle.frame.specs.declared.Fault.{Fault}
 use Rattle.frame.specs.declared.Fault.TheVariants.{Length, Copies, CheckWord, Form}
-use Rattle.frame.specs.declared.Reading.{Reading}
-use Rattle.frame.specs.declared.Reading.TheVariants.{Frame, Refused}
 use Rattle.frame.specs.Control.{bit, subconnection_of, control_of, has_form}
 use Rattle.frame.specs.Reading.{is_frame_length, has_check_word, fields_in, is_formed, reading_of_copies, reading_of}
 use Rattle.frame.specs.Reading.{body_in, Locates}
 use Rattle.frame.specs.Writing.{time_of, carry_of, head_bytes, with_check_word, twice, sub_bytes, frame_bytes}
 use Rattle.frame.specs.Writing.{is_writable}
 use Rattle.frame.specs.RoundTrip.{SubconnectionFits, Writable}
-use Rattle.frame.proofs.Lengths.{frame_length, slice_from}
+use Rattle.std.proofs.lemmas.List.{drop-take}
+use Rattle.frame.proofs.Lengths.{frame_length}
 
 -- ---- what an accepted reading says: a refusal is no frame, so every test has passed
 module _ (f : Fields) (start end : ℕ) where
-  past : (t : Bool) (fault : Fault) (r : Reading) → cond (not t) (Refused fault) r ≡ Frame f start end
-      → (t ≡ true) × (r ≡ Frame f start end)
-  past true fault r h = (refl, h)
-  past false fault r h = let z : ◌≡◌ {A = ℕ} 0 1 = cc in absurd (omega arith)
+  past : (t : Bool) (fault : Fault) (r : Reading) → cond (not t) (Err fault) r ≡ Ok (frame_with f start end)
+      → (t ≡ true) × (r ≡ Ok (frame_with f start end))
+  past t fault r h = grind arith
 
   record Accepted (a b : List ℕ) : Type 0 where
     alike : a ≡ b
@@ -42,17 +43,25 @@ module _ (f : Fields) (start end : ℕ) where
     starts : start ≡ 20
     ends : end ≡ length a - 4
 
-  accepted : (a b : List ℕ) → reading_of_copies a b ≡ Frame f start end → Accepted a b
+  accepted : (a b : List ℕ) → reading_of_copies a b ≡ Ok (frame_with f start end) → Accepted a b
   unfolding reading_of_copies
   accepted a b h =
       let p = past (same a b) Copies _ h in
       let q = past (has_check_word a) CheckWord _ p.1 in
       let r = past (is_formed (word_at a 0) (word_at a 16) (fields_in a)) Form _ q.1 in
-      let e = r.1 in
-      record { alike = same_eq a b p.0; checked = q.0; formed = r.0; fields = cc; starts = cc; ends = cc }
+      let o = r.1 in
+      let e : frame_with (fields_in a) 20 (length a - 4) ≡ frame_with f start end = cc in
+      record {
+        alike = same_eq a b p.0;
+        checked = q.0;
+        formed = r.0;
+        fields = ap (λ x. x.fields) e;
+        starts = sym (ap (λ x. x.start) e);
+        ends = sym (ap (λ x. x.end) e);
+      }
 
 -- the body of a frame stands within its bytes
-pub within : (s : List ℕ) (f : Fields) (start end : ℕ) → reading_of s ≡ Frame f start end
+pub within : (s : List ℕ) (f : Fields) (start end : ℕ) → reading_of s ≡ Ok (frame_with f start end)
     → (start ≤ end) × (end ≤ length s)
 unfolding reading_of
 within s f start end h =
@@ -92,8 +101,7 @@ locates s f start end h =
 
 -- ---- a SubPDU of bytes, put together again from its words and its body
 subconnection_fits : (b : Bool) (v : ℕ) → SubconnectionFits (subconnection_of b (v % 65536))
-subconnection_fits true v = omega arith
-subconnection_fits false v = tt
+subconnection_fits b v = grind arith
 
 module _ (a : List ℕ) (r : Bytes a) where
   rebuilt : (m : ℕ)
@@ -168,11 +176,11 @@ module _ (s : List ℕ) (r : Bytes s) where
   body_of n g h =
       let l : length (take n s) ≡ n = length-take-le n s h in
       let e : 20 + (length (take n s) - 24) ≡ length (take n s) - 4 = omega arith in
-      sym (slice_from 20 (length (take n s) - 24) (take n s) (omega arith))
+      sym (drop-take 20 (length (take n s) - 24) (take n s))
       ∙ ap (λ (k : ℕ). slice 20 k (take n s)) e
       ∙ ap (drop 20) (take-take (length (take n s) - 4) n s (omega arith))
 
-  pub back : (f : Fields) (start end : ℕ) → reading_of s ≡ Frame f start end → Writable f (slice start end s)
+  pub back : (f : Fields) (start end : ℕ) → reading_of s ≡ Ok (frame_with f start end) → Writable f (slice start end s)
       × (frame_bytes f (slice start end s) ≡ s)
   unfolding reading_of frame_bytes twice is_writable Written
   back f start end h =

@@ -1,49 +1,26 @@
 -- The CTRL word taken apart and put together again.
-use mathlib.Core.Path.{◌≡◌, refl, ap, ap₂, ◌∙◌}
+use mathlib.Core.Path.{◌≡◌, ap, ap₂, ◌∙◌}
+use Rattle.std.specs.Prelude.{None, Option, Some, ℕ}
+use Rattle.std.specs.Result.{result_unwrap_or}
 use mathlib.Core.Bool.{Bool, true, false}
 use Prim.Native.Nat.{ℕ, ◌+◌, ◌*◌, ◌/◌, ◌%◌, ◌^◌, ◌≤◌, ◌<◌}
 use native.Mathlib.Omega.{arith}
 use lib.Arith.{digits_mod}
-use lib.Dec.{lit≤, lit<}
-use borrow.Author.Tests.{eq-eqb, ne_eqb}
+use lib.Dec.{lit<}
 use Rattle.frame.specs.declared.Command.{Command}
-use Rattle.frame.specs.declared.Command.TheVariants.{Connect, ConfirmNetwork, VerifyStation, InvokeFunc}
-use Rattle.frame.specs.declared.Command.TheVariants.{Disconnect, ReadErrorInfo, WriteErrorInfo, RefreshReady}
-use Rattle.frame.specs.declared.Command.TheVariants.{RefreshMo, RefreshGo, Refresh}
-use Rattle.frame.specs.declared.Subconnection.{Subconnection}
-use Rattle.frame.specs.declared.Subconnection.TheVariants.{Absent, Number}
+use Rattle.frame.specs.declared.Command.TheVariants.{Refresh}
 use Rattle.frame.specs.declared.Fields.{Fields}
-use Rattle.frame.specs.Control.{code_of, command_of, subconnection_bits, subconnection_of, bit, flag, control_of}
+use Rattle.frame.specs.Control.{code_of, command_of, listed, subconnection_bits, subconnection_of, bit, flag, control_of}
 use Rattle.frame.specs.Reading.{fields_of}
 use Rattle.frame.specs.Writing.{time_of, carry_of}
 use Rattle.frame.specs.RoundTrip.{SubconnectionFits}
 
 -- ---- commands
 code_le : (k : Command) → code_of k ≤ 255
-code_le Connect = lit≤ tt
-code_le ConfirmNetwork = lit≤ tt
-code_le VerifyStation = lit≤ tt
-code_le InvokeFunc = lit≤ tt
-code_le Disconnect = lit≤ tt
-code_le ReadErrorInfo = lit≤ tt
-code_le WriteErrorInfo = lit≤ tt
-code_le RefreshReady = lit≤ tt
-code_le RefreshMo = lit≤ tt
-code_le RefreshGo = lit≤ tt
-code_le Refresh = lit≤ tt
+code_le k = grind arith
 
 pub command_of_code : (k : Command) → command_of (code_of k) ≡ k
-command_of_code Connect = refl
-command_of_code ConfirmNetwork = refl
-command_of_code VerifyStation = refl
-command_of_code InvokeFunc = refl
-command_of_code Disconnect = refl
-command_of_code ReadErrorInfo = refl
-command_of_code WriteErrorInfo = refl
-command_of_code RefreshReady = refl
-command_of_code RefreshMo = refl
-command_of_code RefreshGo = refl
-command_of_code Refresh = refl
+command_of_code k = grind arith
 
 -- ---- a flag as a digit
 digit : Bool → ℕ
@@ -51,30 +28,26 @@ digit b = flag b 1
 
 digit_le : (b : Bool) → digit b ≤ 1
 unfolding digit
-digit_le true = lit≤ tt
-digit_le false = lit≤ tt
+digit_le b = grind arith
 
 flag_digit : (b : Bool) (n : ℕ) → flag b n ≡ n * digit b
 unfolding digit
-flag_digit true n = omega arith
-flag_digit false n = omega arith
+flag_digit b n = grind arith
 
 bit_digit : (i v : ℕ) (b : Bool) → v / 2 ^ i % 2 ≡ digit b → bit i v ≡ b
 unfolding digit
-bit_digit i v true e = eq-eqb (v / 2 ^ i % 2) 1 e
-bit_digit i v false e = ne_eqb (v / 2 ^ i % 2) 1 (λ (h : v / 2 ^ i % 2 ≡ 1). omega arith)
+bit_digit i v b e = grind arith
 
 -- ---- Sub CID
-subconnection_lt : (s : Subconnection) → SubconnectionFits s → subconnection_bits s < 131072
-subconnection_lt Absent h = omega arith
-subconnection_lt (Number n) h = omega arith
+subconnection_lt : (s : Option ℕ) → SubconnectionFits s → subconnection_bits s < 131072
+subconnection_lt s h = grind arith
 
-subconnection_of_bits : (v : ℕ) (s : Subconnection) → SubconnectionFits s → v % 131072 ≡ subconnection_bits s
+subconnection_of_bits : (v : ℕ) (s : Option ℕ) → SubconnectionFits s → v % 131072 ≡ subconnection_bits s
     → subconnection_of (bit 16 v) (v % 65536) ≡ s
 unfolding digit
-subconnection_of_bits v Absent h e =
+subconnection_of_bits v None h e =
     ap (λ (b : Bool). subconnection_of b (v % 65536)) (bit_digit 16 v false (omega arith))
-subconnection_of_bits v (Number n) h e =
+subconnection_of_bits v (Some n) h e =
     let k : v % 65536 ≡ n = omega arith in
     let q : v / 2 ^ 16 ≡ v / 131072 * 2 + 1 = omega arith in
     ap₂ subconnection_of (bit_digit 16 v true (ap (λ (m : ℕ). m % 2) q ∙ digits_mod (v / 131072) (lit< tt))) k
@@ -140,3 +113,7 @@ fields_of_words f h b =
       timestamp = t i;
       baseline = o i;
     }
+
+-- ---- an unlisted code has no command but the one that stands in
+pub listed_or_refresh : (code : ℕ) → result_unwrap_or (listed code) Refresh ≡ command_of code
+listed_or_refresh code = grind arith

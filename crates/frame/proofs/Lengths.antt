@@ -1,14 +1,12 @@
 -- Lengths as numbers: of a frame, of a body, of what is written; a part of a list.
-use mathlib.Core.Path.{◌≡◌, ap, ◌∙◌}
+use mathlib.Core.Path.{◌≡◌, ◌∙◌}
 use mathlib.Core.Bool.{true}
 use mathlib.Core.List.{List}
-use mathlib.Mathlib.Data.Bool.Basic.{and_elim_left, and_elim_right}
 use Prim.Native.Nat.{ℕ, ◌+◌, ◌*◌, ◌%◌, ◌^◌, ◌≤◌, ◌<◌}
 use native.Mathlib.Omega.{arith}
-use lib.Dec.{leb, ltb}
 use lib.ListN.{length, take, drop, length-append}
-use lib.Seq.{slice, take-add, drop_at, length-take-le}
-use borrow.Author.Tests.{leb-true, ltb-true, eqb-true}
+use lib.Seq.{slice}
+use Rattle.std.proofs.lemmas.List.{drop-take}
 use Rattle.words.specs.Words.{word_bytes}
 use Rattle.crc.specs.Crc.{crc}
 use Rattle.frame.specs.declared.Fields.{Fields}
@@ -24,28 +22,13 @@ pub record FrameLength (n : ℕ) : Type 0 where
   pub words : n % 8 ≡ 0
 
 pub frame_length : (n : ℕ) → is_frame_length n ≡ true → FrameLength n
-frame_length n h =
-    let m = and_elim_right (leb 56 n) _ h in
-    record {
-      least = leb-true 56 n (and_elim_left (leb 56 n) _ h);
-      most = leb-true n 248 (and_elim_left (leb n 248) _ m);
-      words = eqb-true (n % 8) 0 (and_elim_right (leb n 248) _ m);
-    }
+frame_length n h = grind arith
 
 -- ---- what can be written
 pub record BodyLength (n : ℕ) : Type 0 where
   pub least : 4 ≤ n
   pub most : n ≤ 100
   pub words : n % 4 ≡ 0
-
-pub body_length : (n : ℕ) → is_body_length n ≡ true → BodyLength n
-body_length n h =
-    let m = and_elim_right (leb 4 n) _ h in
-    record {
-      least = leb-true 4 n (and_elim_left (leb 4 n) _ h);
-      most = leb-true n 100 (and_elim_left (leb n 100) _ m);
-      words = eqb-true (n % 4) 0 (and_elim_right (leb n 100) _ m);
-    }
 
 pub record CanBeWritten (f : Fields) (n : ℕ) : Type 0 where
   pub form : has_form f ≡ true
@@ -55,15 +38,7 @@ pub record CanBeWritten (f : Fields) (n : ℕ) : Type 0 where
 
 pub can_be_written : (f : Fields) (n : ℕ) → is_writable f n ≡ true → CanBeWritten f n
 unfolding is_writable
-can_be_written f n h =
-    let t = and_elim_right (has_form f) _ h in
-    let l = and_elim_right (ltb f.timestamp (2 ^ 48)) _ t in
-    record {
-      form = and_elim_left (has_form f) _ h;
-      timestamp = ltb-true f.timestamp (2 ^ 48) (and_elim_left (ltb f.timestamp (2 ^ 48)) _ t);
-      body = l;
-      bounds = body_length n l;
-    }
+can_be_written f n h = grind arith
 
 -- ---- what is written
 pub length_head : (control cid time cc : ℕ) (body : List ℕ)
@@ -94,4 +69,4 @@ length_frame_of h body =
 
 -- ---- parts of a list
 pub slice_from : (k m : ℕ) (l : List ℕ) → k ≤ length l → slice k (k + m) l ≡ take m (drop k l)
-slice_from k m l h = ap (drop k) (take-add k m l) ∙ drop_at (take k l) (take m (drop k l)) k (length-take-le k l h)
+slice_from k m l h = drop-take k m l

@@ -1,5 +1,7 @@
 -- The round trip, all of it.
 use mathlib.Core.Path.{◌≡◌, refl, sym, ap, ◌∙◌}
+use Rattle.std.specs.Prelude.{Ok}
+use Rattle.frame.specs.Reading.{frame_with}
 use mathlib.Core.Bool.{Bool, true, false, ◌&&◌}
 use mathlib.Core.List.{List, ◌++◌}
 use mathlib.Mathlib.Data.Bool.Basic.{and_elim_left}
@@ -10,7 +12,6 @@ use lib.ListN.{length, take, drop}
 use lib.Seq.{slice, take_at, take-append-le}
 use Rattle.words.specs.Output.{over}
 use Rattle.frame.specs.declared.Fields.{Fields}
-use Rattle.frame.specs.declared.Reading.TheVariants.{Frame}
 use Rattle.frame.specs.Reading.{reading_of}
 use Rattle.frame.specs.Writing.{frame_bytes, is_writable, written_of, WriteSays}
 use Rattle.frame.specs.RoundTrip.{SubconnectionFits, Readable, RoundTrip}
@@ -22,10 +23,11 @@ use Rattle.frame.proofs.Back.{within, back}
 -- what was read of equal bytes is equal
 only : (f g : Fields) (b c : List ℕ) → Readable f b → Readable g c → frame_bytes f b ≡ frame_bytes g c → (f ≡ g) × (b ≡ c)
 only f g b c w x e =
-    let r : Frame f 20 (20 + length b) ≡ Frame g 20 (20 + length c) = sym (reads f b w) ∙ ap reading_of e
+    let r : Ok (frame_with f 20 (20 + length b)) ≡ Ok (frame_with g 20 (20 + length c)) = sym (reads f b w) ∙ ap reading_of e
     ∙ reads g c x in
-    let m : 20 + length b ≡ 20 + length c = cc in
-    (cc, sym (body_lies f b w) ∙ (λ i. slice 20 (m i) (e i)) ∙ body_lies g c x)
+    let q : frame_with f 20 (20 + length b) ≡ frame_with g 20 (20 + length c) = cc in
+    let m : 20 + length b ≡ 20 + length c = ap (λ x. x.end) q in
+    (ap (λ x. x.fields) q, sym (body_lies f b w) ∙ (λ i. slice 20 (m i) (e i)) ∙ body_lies g c x)
 
 -- ---- what was written over an output's front is its front
 module _ (f : Fields) (body out out' : List ℕ) (count : ℕ) (baseline : f.baseline < 65536)
@@ -62,7 +64,7 @@ module _ (f : Fields) (body out out' : List ℕ) (count : ℕ) (baseline : f.bas
       ap (take count) output
       ∙ take_at (frame_bytes f body) _ count (sym (w.counted ∙ ap length is_frame_law))
 
-  read_back : reading_of (take count out') ≡ Frame f 20 (20 + length body)
+  read_back : reading_of (take count out') ≡ Ok (frame_with f 20 (20 + length body))
   read_back = ap reading_of front ∙ reads f body readable
 
   body_back : slice 20 (20 + length body) out' ≡ body

@@ -1,5 +1,7 @@
 -- A written frame has no fault and reads back as its fields, its body where the reading says.
 use mathlib.Core.Path.{◌≡◌, refl, sym, ap, ◌∙◌}
+use Rattle.std.specs.Prelude.{Err, Ok}
+use Rattle.frame.specs.Reading.{frame_with}
 use mathlib.Core.Bool.{true, not, cond}
 use mathlib.Core.List.{List, ◌++◌, append_assoc}
 use mathlib.Mathlib.Data.Bool.Basic.{and_intro}
@@ -14,13 +16,13 @@ use Rattle.words.proofs.Words.{of_word, word_end}
 use Rattle.crc.specs.Crc.{crc}
 use Rattle.frame.specs.declared.Fields.{Fields}
 use Rattle.frame.specs.declared.Fault.TheVariants.{Length, Copies, CheckWord, Form}
-use Rattle.frame.specs.declared.Reading.TheVariants.{Frame, Refused}
 use Rattle.frame.specs.Control.{control_of}
 use Rattle.frame.specs.Reading.{is_frame_length, has_check_word, fields_of, fields_in, is_formed, reading_of_copies}
 use Rattle.frame.specs.Reading.{reading_of}
 use Rattle.frame.specs.Writing.{time_of, carry_of, head_bytes, with_check_word, twice, sub_bytes, frame_bytes}
 use Rattle.frame.specs.RoundTrip.{Readable}
-use Rattle.frame.proofs.Lengths.{CanBeWritten, can_be_written, length_sub, length_frame, slice_from}
+use Rattle.frame.proofs.Lengths.{CanBeWritten, can_be_written, length_sub, length_frame}
+use Rattle.std.proofs.lemmas.List.{drop-take}
 use Rattle.frame.proofs.Digits.{fields_of_words}
 
 front_of : (b x y : List ℕ) → take (length b) ((b ++ x) ++ y) ≡ b
@@ -77,12 +79,12 @@ module _ (f : Fields) (body : List ℕ) (w : Readable f body) where
   unfolding sub
   len = length_sub f body
 
-  copies : reading_of_copies sub sub ≡ Frame f 20 (20 + length body)
+  copies : reading_of_copies sub sub ≡ Ok (frame_with f 20 (20 + length body))
   unfolding reading_of_copies
   copies =
       let e : length sub - 4 ≡ 20 + length body = omega (arith, len) in
-      λ i. cond (not (same_refl sub i)) (Refused Copies) (cond (not (checked i)) (Refused CheckWord)
-      (cond (not (formed i)) (Refused Form) (Frame (fields i) 20 (e i))))
+      λ i. cond (not (same_refl sub i)) (Err Copies) (cond (not (checked i)) (Err CheckWord)
+      (cond (not (formed i)) (Err Form) (Ok (frame_with (fields i) 20 (e i)))))
 
   first : take (length (frame_bytes f body) / 2) (frame_bytes f body) ≡ sub
   unfolding frame_bytes twice sub
@@ -99,13 +101,13 @@ module _ (f : Fields) (body : List ℕ) (w : Readable f body) where
       let c = can in
       and_intro (le-leb 56 n (omega arith)) (and_intro (le-leb n 248 (omega arith)) (eq-eqb (n % 8) 0 (omega arith)))
 
-  pub reads : reading_of (frame_bytes f body) ≡ Frame f 20 (20 + length body)
+  pub reads : reading_of (frame_bytes f body) ≡ Ok (frame_with f 20 (20 + length body))
   unfolding reading_of
-  reads = (λ i. cond (not (frame_length i)) (Refused Length) (reading_of_copies (first i) (second i))) ∙ copies
+  reads = (λ i. cond (not (frame_length i)) (Err Length) (reading_of_copies (first i) (second i))) ∙ copies
 
   after_words : take (length body) (drop 20 (frame_bytes f body)) ≡ body
   unfolding frame_bytes twice sub_bytes with_check_word head_bytes
   after_words = front_of body _ _
 
   pub body_lies : slice 20 (20 + length body) (frame_bytes f body) ≡ body
-  body_lies = slice_from 20 (length body) (frame_bytes f body) (omega (arith, length_frame f body)) ∙ after_words
+  body_lies = drop-take 20 (length body) (frame_bytes f body) ∙ after_words

@@ -1,13 +1,13 @@
 -- The CTRL word: commands and their codes, the bits, and the form rule (document 01, "The frame"; number 7).
 use Rattle.std.specs.Prelude.{Bool, true, false, ◌&&◌, ◌||◌, not, cond, ℕ, ◌+◌, ◌*◌, ◌/◌, ◌%◌, ◌^◌, eqb}
+use Rattle.std.specs.Prelude.{None, Option, Some, Result, Err, Ok}
 use Rattle.std.specs.Bool.{beq}
 use Rattle.frame.specs.declared.Command.{Command}
 use Rattle.frame.specs.declared.Command.TheVariants.{Connect, ConfirmNetwork, VerifyStation, InvokeFunc}
 use Rattle.frame.specs.declared.Command.TheVariants.{Disconnect, ReadErrorInfo, WriteErrorInfo, RefreshReady}
 use Rattle.frame.specs.declared.Command.TheVariants.{RefreshMo, RefreshGo, Refresh}
-use Rattle.frame.specs.declared.Subconnection.{Subconnection}
-use Rattle.frame.specs.declared.Subconnection.TheVariants.{Absent, Number}
 use Rattle.frame.specs.declared.Fields.{Fields}
+use Rattle.frame.specs.declared.UnlistedCode.{UnlistedCode}
 
 -- Cmd
 abbrev pub code_of : Command → ℕ
@@ -37,30 +37,34 @@ command_of code =
     (cond (eqb code 0xFD) RefreshMo
     (cond (eqb code 0xFE) RefreshGo Refresh)))))))))
 
+-- the command whose code it is; an unlisted code is the error's
+abbrev pub listed : ℕ → Result Command UnlistedCode
+listed code = cond (eqb (code_of (command_of code)) code) (Ok (command_of code)) (Err (record { 0 = code }))
+
 abbrev pub is : Command → Command → Bool
 is a b = eqb (code_of a) (code_of b)
 
 -- Sub CID active, bit 16, and Sub CID
-abbrev pub subconnection_bits : Subconnection → ℕ
-subconnection_bits Absent = 0
-subconnection_bits (Number n) = 65536 + n
+abbrev pub subconnection_bits : Option ℕ → ℕ
+subconnection_bits None = 0
+subconnection_bits (Some n) = 65536 + n
 
-abbrev pub subconnection_of : Bool → ℕ → Subconnection
-subconnection_of true n = Number n
-subconnection_of false n = Absent
+abbrev pub subconnection_of : Bool → ℕ → Option ℕ
+subconnection_of true n = Some n
+subconnection_of false n = None
 
-abbrev pub is_absent : Subconnection → Bool
-is_absent Absent = true
-is_absent (Number n) = false
+abbrev pub is_absent : Option ℕ → Bool
+is_absent None = true
+is_absent (Some n) = false
 
 -- the same Sub CID, or none in both
-abbrev pub is_same : Subconnection → Subconnection → Bool
+abbrev pub is_same : Option ℕ → Option ℕ → Bool
 is_same a b = eqb (subconnection_bits a) (subconnection_bits b)
 
 -- its 16 bits
-abbrev pub narrowed : Subconnection → Subconnection
-narrowed Absent = Absent
-narrowed (Number n) = Number (n % 65536)
+abbrev pub narrowed : Option ℕ → Option ℕ
+narrowed None = None
+narrowed (Some n) = Some (n % 65536)
 
 abbrev pub bit : ℕ → ℕ → Bool
 bit i v = eqb (v / 2 ^ i % 2) 1

@@ -1,179 +1,161 @@
 // CTRL: a command's code, the word of the fields, and the form rule.
-ghost use Rattle.std.specs.Prelude.{◌≡◌, ◌≤◌, ◌<◌};
-ghost use Rattle.frame.specs.Control.{code_of, command_of, is, subconnection_bits, subconnection_of, is_absent, flag};
-ghost use Rattle.frame.specs.Control.{control_of, waits_for_station, may_be_busy, is_joined, has_form, is_same, narrowed};
+ghost use Rattle.std.specs.Prelude.{◌≡◌, ◌≤◌, ◌<◌, ◌^◌};
+ghost use Rattle.frame.specs.Control.{code_of, listed, subconnection_bits, flag};
+ghost use Rattle.frame.specs.Control.{waits_for_station, may_be_busy, is_joined, control_of, has_form};
+ghost use Rattle.frame.specs.Control.{ack_fits, application_fits, busy_fits, error_fits, baseline_fits};
+ghost use Rattle.frame.specs.Control.{sequence_fits, session_fits};
 
-use super::{Command, Fields, Subconnection};
+use super::{Command, Fields, UnlistedCode};
 
-fn code_of(command: Command) -> u32
-    ensures { (result ≡ code_of command) × (result ≤ 255) }
-{
-    match command {
-        Command::Connect => 0x00,
-        Command::ConfirmNetwork => 0x01,
-        Command::VerifyStation => 0x02,
-        Command::InvokeFunc => 0x03,
-        Command::Disconnect => 0xF9,
-        Command::ReadErrorInfo => 0xFA,
-        Command::WriteErrorInfo => 0xFB,
-        Command::RefreshReady => 0xFC,
-        Command::RefreshMo => 0xFD,
-        Command::RefreshGo => 0xFE,
-        Command::Refresh => 0xFF,
+impl From<Command> for u32 {
+    ghost from_gives = { λ command code. (code ≡ code_of command) × (code ≤ 255) };
+
+    fn from(command: Command) -> u32 {
+        match command {
+            Command::Connect => 0x00,
+            Command::ConfirmNetwork => 0x01,
+            Command::VerifyStation => 0x02,
+            Command::InvokeFunc => 0x03,
+            Command::Disconnect => 0xF9,
+            Command::ReadErrorInfo => 0xFA,
+            Command::WriteErrorInfo => 0xFB,
+            Command::RefreshReady => 0xFC,
+            Command::RefreshMo => 0xFD,
+            Command::RefreshGo => 0xFE,
+            Command::Refresh => 0xFF,
+        }
     }
 }
 
-// The command of a code. For an unlisted code Refresh stands in, whose own code is another.
-pub(crate) fn command_of(code: u32) -> Command
-    ensures { result ≡ command_of code }
-{
-    if code == 0x00 {
-        return Command::Connect;
+impl TryFrom<u32> for Command {
+    type Error = UnlistedCode;
+
+    ghost try_from_gives = { λ code r. r ≡ listed code };
+
+    fn try_from(code: u32) -> Result<Self, UnlistedCode> {
+        match code {
+            0x00 => Ok(Command::Connect),
+            0x01 => Ok(Command::ConfirmNetwork),
+            0x02 => Ok(Command::VerifyStation),
+            0x03 => Ok(Command::InvokeFunc),
+            0xF9 => Ok(Command::Disconnect),
+            0xFA => Ok(Command::ReadErrorInfo),
+            0xFB => Ok(Command::WriteErrorInfo),
+            0xFC => Ok(Command::RefreshReady),
+            0xFD => Ok(Command::RefreshMo),
+            0xFE => Ok(Command::RefreshGo),
+            0xFF => Ok(Command::Refresh),
+            _ => Err(UnlistedCode(code)),
+        }
     }
-    if code == 0x01 {
-        return Command::ConfirmNetwork;
-    }
-    if code == 0x02 {
-        return Command::VerifyStation;
-    }
-    if code == 0x03 {
-        return Command::InvokeFunc;
-    }
-    if code == 0xF9 {
-        return Command::Disconnect;
-    }
-    if code == 0xFA {
-        return Command::ReadErrorInfo;
-    }
-    if code == 0xFB {
-        return Command::WriteErrorInfo;
-    }
-    if code == 0xFC {
-        return Command::RefreshReady;
-    }
-    if code == 0xFD {
-        return Command::RefreshMo;
-    }
-    if code == 0xFE {
-        return Command::RefreshGo;
-    }
-    Command::Refresh
 }
 
-// Whether two commands are the same.
-pub fn is(a: Command, b: Command) -> bool
-    ensures { result ≡ is a b }
-{
-    code_of(a) == code_of(b)
-}
-
-fn subconnection_bits(subconnection: Subconnection) -> u32
+fn subconnection_bits(subconnection: Option<u16>) -> u32
     ensures { (result ≡ subconnection_bits subconnection) × (result < 131072) }
 {
-    match subconnection {
-        Subconnection::Absent => 0,
-        Subconnection::Number(n) => 65536 + (n as u32),
-    }
+    subconnection.map_or(0, |n| 65536 + u32::from(n))
 }
 
-pub fn subconnection_of(active: bool, number: u16) -> Subconnection
-    ensures { result ≡ subconnection_of active number }
+// Bit i where the flag is set.
+fn flag(b: bool, i: u32) -> u32
+    requires { i < 32 }
+    ensures { (result ≡ flag b (2 ^ i)) × (result ≤ 2 ^ i) }
 {
-    if active {
-        Subconnection::Number(number)
-    } else {
-        Subconnection::Absent
-    }
-}
-
-pub fn is_absent(subconnection: Subconnection) -> bool
-    ensures { result ≡ is_absent subconnection }
-{
-    match subconnection {
-        Subconnection::Absent => true,
-        Subconnection::Number(_) => false,
-    }
-}
-
-// Whether two have the same Sub CID, or none.
-pub fn is_same(a: Subconnection, b: Subconnection) -> bool
-    ensures { result ≡ is_same a b }
-{
-    subconnection_bits(a) == subconnection_bits(b)
-}
-
-// Of 16 bits, as it is.
-pub fn narrowed(subconnection: Subconnection) -> Subconnection
-    ensures { result ≡ narrowed subconnection }
-{
-    match subconnection {
-        Subconnection::Absent => Subconnection::Absent,
-        Subconnection::Number(n) => Subconnection::Number(((n as u32) % 65536) as u16),
-    }
-}
-
-// n where the flag is set.
-fn flag(b: bool, n: u32) -> u32
-    ensures { (result ≡ flag b n) × (result ≤ n) }
-{
-    if b { n } else { 0 }
-}
-
-// CTRL of the fields.
-pub(crate) fn control_of(f: Fields) -> u32
-    ensures { result ≡ control_of f }
-{
-    let command = f.command;
-    let subconnection = f.subconnection;
-    16777216 * code_of(command)
-        + (flag(f.ack, 8388608)
-            + (flag(f.busy, 4194304)
-                + (flag(f.error, 2097152)
-                    + (flag(f.sequence, 1048576)
-                        + (flag(f.application, 262144) + subconnection_bits(subconnection))))))
+    u32::from(b) << i
 }
 
 // Whether a station that is not ready holds the command's reply back.
 pub fn waits_for_station(k: Command) -> bool
     ensures { result ≡ waits_for_station k }
 {
-    is(k, Command::ConfirmNetwork) | (is(k, Command::VerifyStation) | is(k, Command::RefreshReady))
+    matches!(
+        k,
+        Command::ConfirmNetwork | Command::VerifyStation | Command::RefreshReady
+    )
 }
 
 // Whether a command's reply may have Busy 1.
 fn may_be_busy(k: Command) -> bool
     ensures { result ≡ may_be_busy k }
 {
-    waits_for_station(k) | is(k, Command::InvokeFunc)
+    waits_for_station(k) || k == Command::InvokeFunc
 }
 
 // Whether Offset op seq joins the command to others.
 pub fn is_joined(k: Command) -> bool
     ensures { result ≡ is_joined k }
 {
-    is(k, Command::RefreshMo) | is(k, Command::RefreshGo)
+    matches!(k, Command::RefreshMo | Command::RefreshGo)
 }
 
-// The form rule on fields.
-pub(crate) fn has_form(f: Fields) -> bool
-    ensures { result ≡ has_form f }
-{
-    let command = f.command;
-    let subconnection = f.subconnection;
-    let refresh = is(command, Command::Refresh);
-    let disconnect = is(command, Command::Disconnect);
-    let go = is(command, Command::RefreshGo);
-    let connect = is(command, Command::Connect);
-    let may_be_busy = may_be_busy(command);
-    let joined = is_joined(command);
-    let ack_fits = !f.ack | !(refresh | disconnect);
-    let application_fits = refresh | (f.application == f.ack);
-    let busy_fits = !f.busy | (f.ack & may_be_busy);
-    let error_fits = !f.error | f.ack;
-    let baseline_fits = (f.baseline == 0) | (go & !f.ack);
-    let sequence_fits = !f.sequence | joined;
-    let session_fits = is_absent(subconnection) | (f.ack | !connect);
-    ack_fits
-        & (application_fits
-            & (busy_fits & (error_fits & (baseline_fits & (sequence_fits & session_fits)))))
+impl Fields {
+    // CTRL of the fields.
+    #[tactic(auto, unfolding(crate::specs::Control::control_of))]
+    pub(crate) fn control(self) -> u32
+        ensures { result ≡ control_of self }
+    {
+        (u32::from(self.command) << 24)
+            + flag(self.ack, 23)
+            + flag(self.busy, 22)
+            + flag(self.error, 21)
+            + flag(self.sequence, 20)
+            + flag(self.application, 18)
+            + subconnection_bits(self.subconnection)
+    }
+
+    // The form rule: all of these.
+    #[tactic(auto, unfolding(crate::specs::Control::has_form))]
+    pub(crate) fn has_form(self) -> bool
+        ensures { result ≡ has_form self }
+    {
+        self.ack_fits()
+            && self.application_fits()
+            && self.busy_fits()
+            && self.error_fits()
+            && self.baseline_fits()
+            && self.sequence_fits()
+            && self.session_fits()
+    }
+
+    fn ack_fits(self) -> bool
+        ensures { result ≡ ack_fits self }
+    {
+        !self.ack || !matches!(self.command, Command::Refresh | Command::Disconnect)
+    }
+
+    fn application_fits(self) -> bool
+        ensures { result ≡ application_fits self }
+    {
+        self.command == Command::Refresh || self.application == self.ack
+    }
+
+    fn busy_fits(self) -> bool
+        ensures { result ≡ busy_fits self }
+    {
+        !self.busy || self.ack && may_be_busy(self.command)
+    }
+
+    fn error_fits(self) -> bool
+        ensures { result ≡ error_fits self }
+    {
+        !self.error || self.ack
+    }
+
+    fn baseline_fits(self) -> bool
+        ensures { result ≡ baseline_fits self }
+    {
+        self.baseline == 0 || self.command == Command::RefreshGo && !self.ack
+    }
+
+    fn sequence_fits(self) -> bool
+        ensures { result ≡ sequence_fits self }
+    {
+        !self.sequence || is_joined(self.command)
+    }
+
+    fn session_fits(self) -> bool
+        ensures { result ≡ session_fits self }
+    {
+        self.subconnection.is_none() || self.ack || self.command != Command::Connect
+    }
 }

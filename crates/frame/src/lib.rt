@@ -13,7 +13,7 @@ pub const LONGEST_FRAME: usize = 248;
 pub const TIMESTAMP_MODULUS: u64 = 281474976710656;
 
 // Cmd, bits 31 to 24 of CTRL, with its code.
-#[derive(Clone, Copy)]
+#[derive(Clone, Copy, Debug, PartialEq, Eq)]
 pub enum Command {
     // S-Connect, 0x00
     Connect,
@@ -39,15 +39,12 @@ pub enum Command {
     Refresh,
 }
 
-// Sub CID active, bit 16 of CTRL, and Sub CID, bits 15 to 0.
-#[derive(Clone, Copy)]
-pub enum Subconnection {
-    Absent,
-    Number(u16),
-}
+// A code that is no command's.
+#[derive(Clone, Copy, Debug, PartialEq, Eq)]
+pub struct UnlistedCode(pub u32);
 
 // What a frame carries beside its body (S-Data).
-#[derive(Clone, Copy)]
+#[derive(Clone, Copy, Debug, PartialEq, Eq)]
 pub struct Fields {
     pub command: Command,
     pub ack: bool,
@@ -57,7 +54,8 @@ pub struct Fields {
     pub sequence: bool,
     // Application: 0 from a master, 1 from a slave
     pub application: bool,
-    pub subconnection: Subconnection,
+    // Sub CID, bits 15 to 0 of CTRL, where Sub CID active, bit 16, is 1
+    pub subconnection: Option<u16>,
     // CID
     pub connection: u32,
     // 48 bits: CC the upper 32, T code the lower 16
@@ -67,7 +65,7 @@ pub struct Fields {
 }
 
 // The words of a SubPDU before RSV.
-#[derive(Clone, Copy)]
+#[derive(Clone, Copy, Debug, PartialEq, Eq)]
 pub struct Head {
     // CTRL
     pub control: u32,
@@ -79,15 +77,8 @@ pub struct Head {
     pub carry: u32,
 }
 
-// Where a part of some bytes lies.
-#[derive(Clone, Copy)]
-pub struct Span {
-    pub start: usize,
-    pub end: usize,
-}
-
 // Why bytes are no frame. Document 01's number and trade word stand beside each.
-#[derive(Clone, Copy)]
+#[derive(Clone, Copy, Debug, PartialEq, Eq)]
 pub enum Fault {
     // 4, length
     Length,
@@ -99,13 +90,11 @@ pub enum Fault {
     Form,
 }
 
-// What reading finds: the fields, with the body at bytes start up to end; or the first fault.
-#[derive(Clone, Copy)]
-pub enum Reading {
-    Frame {
-        fields: Fields,
-        start: usize,
-        end: usize,
-    },
-    Refused(Fault),
+// A frame that was read: its fields, and its body at bytes start up to end. (Not the body's slice: RoundTrip.there, .back
+// and .within speak of these places.)
+#[derive(Clone, Copy, Debug, PartialEq, Eq)]
+pub struct Frame {
+    pub fields: Fields,
+    pub start: usize,
+    pub end: usize,
 }

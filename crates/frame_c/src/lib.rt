@@ -1,4 +1,5 @@
-// The frame check that C calls (include/folderpink.h): frame's function of that name, with its clause.
+// The frame check that C calls (include/folderpink.h): frame's function of that name, with its clause. The C interface wants
+// this crate: an archive exports the functions of its own crate alone.
 #![tactic(auto)]
 
 ghost use Rattle.std.specs.Prelude.{◌≡◌};

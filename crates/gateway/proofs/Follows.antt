@@ -1,6 +1,9 @@
 -- From what the parts of a call ensure to what the call comes to.
 use mathlib.Core.Path.{◌≡◌, refl, sym, ap, subst, ◌∙◌}
-use mathlib.Core.Bool.{Bool, true, false, ◌&&◌, ◌||◌, cond, and-true, and-false, true≢false, false≢true}
+use Rattle.std.specs.Prelude.{Err, Ok}
+use Rattle.frame.specs.Reading.{Reading}
+use Rattle.frame.specs.Reading.{frame_with}
+use mathlib.Core.Bool.{Bool, true, false, ◌&&◌, ◌||◌, cond, and-false, true≢false, false≢true}
 use mathlib.Core.List.{List, []}
 use mathlib.Mathlib.Data.Bool.Basic.{and_elim_right}
 use Prim.Native.Nat.{ℕ}
@@ -10,25 +13,23 @@ use lib.ListN.{length, take}
 use lib.Seq.{slice}
 use borrow.Author.Tests.{ltb-true, ltb-false, lt-ltb, not-false}
 use Rattle.words.specs.Output.{over}
-use Rattle.frame.specs.declared.Command.TheVariants as K
 use Rattle.frame.specs.declared.Fields.{Fields}
 use Rattle.frame.specs.Control.{is}
-use Rattle.frame.specs.declared.Reading.{Reading}
-use Rattle.frame.specs.declared.Reading.TheVariants.{Frame, Refused}
 use Rattle.frame.specs.Reading.{reading_of, connection_in, body_in}
 use Rattle.frame.proofs.Back.{locates}
 use Rattle.endpoint.specs.declared.State.TheVariants.{Refresh}
 use Rattle.endpoint.specs.Endpoint.{Endpoint, no_bytes, no_record, core_of}
 use Rattle.endpoint.specs.declared.Reason.{Reason}
 use Rattle.endpoint.specs.declared.Reason.TheVariants as R
-use Rattle.endpoint.specs.declared.Answer.{Answer}
-use Rattle.endpoint.specs.declared.Answer.TheVariants.{Done, Dropped}
+use Rattle.endpoint.specs.Answers.{Answer}
+use Rattle.endpoint.specs.declared.Refusal.TheVariants.{Dropped}
 use Rattle.endpoint.specs.Answers.{is_done, is_ended}
-use Rattle.endpoint.specs.Table.{is_state, request_of}
+use Rattle.endpoint.specs.Table.{is_state}
 use Rattle.endpoint.specs.Time.{is_expired, ended_of, after_tick}
 use Rattle.steps.specs.Frames.{nothing, bytes_of, show_width}
 use Rattle.steps.specs.Frames.{padded_of}
-use Rattle.steps.specs.Calls.{Outcome, is_fail_safe, held_or, shown_of, shown_age}
+use Rattle.steps.specs.Calls.{Outcome, stop_of, send_of, is_fail_safe, held_or, shown_of, shown_age}
+use Rattle.steps.specs.declared.Stepped.{Stepped}
 use Rattle.steps.specs.Says.{stepped_of, plain_step}
 use Rattle.steps.specs.Steps as S
 use Rattle.steps.specs.Values.{with_bytes, is_show, hands_words, hands_record}
@@ -37,24 +38,19 @@ use Rattle.steps.proofs.Keeps.{bcase}
 use Rattle.steps.proofs.Quiet.{by_act}
 use Rattle.records.specs.declared.Stored.{Stored}
 use Rattle.records.specs.declared.Record.{Record}
-use Rattle.records.specs.Records.{is_set, state_from, bare_of, held_in, endpoint_of}
+use Rattle.records.specs.Records.{is_set, bare_of, held_in, endpoint_of}
 use Rattle.gateway.specs.declared.Call.{Call}
 use Rattle.gateway.specs.declared.Called.{Called}
-use Rattle.gateway.specs.declared.Sought.{Sought}
 use Rattle.gateway.specs.declared.Picked.{Picked}
-use Rattle.gateway.specs.declared.Handed.{Handed}
 use Rattle.gateway.specs.declared.Moved.{Moved}
 use Rattle.gateway.specs.Tables.{Lent, lent, record_at, blank_record, endpoint_at, place_of, is_reading}
 use Rattle.gateway.specs.Calls.{Result, admit, admit_entry, timely, refused_of, on_entry, is_short, send_in, stop_in}
 use Rattle.gateway.specs.Calls.{reason_of, shown_in, show_in, by_reading, empty_cycle, deliver_in, CallSays, OutputSays}
-use Rattle.gateway.specs.Parts.{with_value, value_at, picked, picked_of, held_at, handed, with_held, handed_of, handed_at}
-use Rattle.gateway.specs.Parts.{sought_of}
-use Rattle.gateway.specs.Parts.{spot_of, met_of, settled, admitted, before, refused_move, acted_move, shown_move}
-use Rattle.gateway.specs.Parts.{plain_move, handed_move, outcome_move, StepMoves, show_answer, ShowMoves, frame_outcome}
-use Rattle.gateway.specs.Parts.{FrameMoves, DeliverMoves}
-use Rattle.gateway.proofs.Parts.{PickSaid, ReadSaid, HandedSaid, SeekSaid, SettleSaid, PutSaid}
-use Rattle.gateway.proofs.OwnStep.{not_done}
-use Rattle.gateway.proofs.Lands.{put_at, keeps, kept_in, keeping, Reads, Lands, refused_lands, entry_lands}
+use Rattle.gateway.specs.Parts.{Handed, with_value, picked, picked_of, handed, with_held, handed_of, spot_of, met_of, settled}
+use Rattle.gateway.specs.Parts.{PutBy, admitted, before, refused_move, acted_move, shown_move, outcome_move, ActMoves}
+use Rattle.gateway.specs.Parts.{StepMoves, show_answer, ShowMoves, frame_outcome, FrameMoves, DeliverMoves}
+use Rattle.gateway.proofs.OwnStep.{not_done, act_is}
+use Rattle.gateway.proofs.Lands.{put_at, put_is, keeps, kept_in, keeping, Reads, Lands, refused_lands, entry_lands}
 use Rattle.gateway.proofs.Lands.{entry_writes, entry_settles}
 use Rattle.gateway.proofs.Lands.{show_settles}
 
@@ -88,6 +84,9 @@ module _ (ys : List Record) (c : Call) (a : S.Act) (silent : is_stop a ≡ false
   abbrev acts : Outcome
   acts = S.act_of (bare_of entered.stored) c.clock a
 
+  abbrev hands : Bool
+  hands = hands_words a || hands_record a
+
   abbrev moves : Moved
   moves = outcome_move entered (before entered false R.Entry) acts (keeps (S.act a) acts.answer)
 
@@ -95,12 +94,13 @@ module _ (ys : List Record) (c : Call) (a : S.Act) (silent : is_stop a ≡ false
   comes = on_entry (λ e. S.act_of e c.clock a) R.Entry (lent c.gateway ys) c.clock false c.entry
 
   -- nothing is written
-  act_moves : (m : Moved) (kept : Bool) → m ≡ plain_move entered (before entered false R.Entry) (plain_step acts) kept
-      → kept ≡ keeps (S.act a) acts.answer → m ≡ moves
-  act_moves m kept e k =
-      e ∙ (λ i. cond (is_done (before entered false R.Entry)) (acted_move entered (stepped_of acts.answer
-      (core_of acts.endpoint) (length (bytes_of (sym (quiet (bare_of entered.stored) c.clock a silent) i)))) (k i))
-      (refused_move entered (before entered false R.Entry)))
+  act_moves : (gives : Stepped → Type 0) (handing : Bool) (m : Moved) → ((s : Stepped) → gives s → s ≡ plain_step acts)
+      → handing ≡ hands → ActMoves entered gives handing m → m ≡ moves
+  act_moves gives handing m law e w =
+      act_is entered gives handing acts m law w
+      ∙ (λ i. cond (is_done (before entered false R.Entry)) (acted_move entered (stepped_of acts.answer
+      (core_of acts.endpoint) (length (bytes_of (sym (quiet (bare_of entered.stored) c.clock a silent) i))))
+      (is_done acts.answer && e i)) (refused_move entered (before entered false R.Entry)))
 
   act_lands : (m : Moved) (v : List ℕ) → m ≡ moves
       → (keeps (S.act a) acts.answer ≡ true → v ≡ kept_in (S.act a)) → Lands ys c m (keeping (S.act a) v) comes
@@ -108,125 +108,74 @@ module _ (ys : List Record) (c : Call) (a : S.Act) (silent : is_stop a ≡ false
       subst (λ (x : Moved). Lands ys c x (keeping (S.act a) v) comes) (sym g)
       (entry_lands ys c c.entry (S.act a) refl none_handed (λ h. absurd (false≢true h)) false R.Entry v e)
 
-  act_settles : (m : Moved) → m ≡ moves → keeps (S.act a) acts.answer ≡ false → settled ys m ≡ comes.lent.records
-  act_settles m g h =
-      ap (settled ys) g
-      ∙ entry_settles ys c c.entry (S.act a) refl none_handed (λ h. absurd (false≢true h)) false R.Entry h
-
--- an act that hands nothing over
-module _ (A : Call → S.Act) (silent : (x : Call) → is_stop (A x) ≡ false)
-    (none : (x : Call) → (hands_words (A x) || hands_record (A x)) ≡ false) where
-  abbrev pub PlainSaid : Picked → Moved → Type 0
-  PlainSaid p m =
-      m ≡ plain_move p (before p false R.Entry) (plain_step (S.act_of (bare_of p.stored) p.call.clock (A p.call))) false
-
-  pub plain_follows : (ys : List Record) (c : Call) (p : Picked) (us : List Record) (m : Moved) (r : Called)
-      (zs : List Record)
-      → PickSaid ys c p us → PlainSaid p m → SettleSaid us m r zs
-      → CallSays (on_entry (λ e. S.act_of e c.clock (A c)) R.Entry (lent c.gateway ys) c.clock false c.entry) zs r
-  plain_follows ys c p us m r zs e₁ e₂ e₃ =
-      let a = A c in
-      let o = acts ys c a (silent c) in
-      let k : keeps (S.act a) o.answer ≡ false = ap (λ (b : Bool). is_done o.answer && b) (none c)
-      ∙ and-false (is_done o.answer) in
-      let g = act_moves ys c a (silent c) m false (subst (λ (x : Picked). PlainSaid x m) e₁.0 e₂) (sym k) in
+  -- an act that hands nothing over
+  pub plain_follows : hands ≡ false → (gives : Stepped → Type 0) → ((s : Stepped) → gives s → s ≡ plain_step acts)
+      → (m : Moved) → ActMoves entered gives false m → (r : Called) (zs : List Record) → r ≡ m.told → zs ≡ settled ys m
+      → CallSays comes zs r
+  plain_follows none gives law m w r zs told left =
+      let k : keeps (S.act a) acts.answer ≡ false =
+      ap (λ (b : Bool). is_done acts.answer && b) none ∙ and-false (is_done acts.answer) in
+      let g = act_moves gives false m law (sym none) w in
       record {
-        told = e₃.0 ∙ (act_lands ys c a (silent c) m no_bytes g (λ h. absurd (false≢true (sym k ∙ h)))).told;
-        left = e₃.1 ∙ ap (λ (l : List Record). settled l m) e₁.1 ∙ act_settles ys c a (silent c) m g k;
+        told = told ∙ (act_lands m no_bytes g (λ h. absurd (false≢true (sym k ∙ h)))).told;
+        left = left ∙ ap (settled ys) g
+            ∙ entry_settles ys c c.entry (S.act a) refl none_handed (λ h. absurd (false≢true h)) false R.Entry k;
       }
 
--- an act that hands words or an error record over, which is kept: `put` says where
-module _ (A : Call → List ℕ → S.Act) (silent : (x : Call) (s : List ℕ) → is_stop (A x s) ≡ false)
-    (hands : (x : Call) (s : List ℕ) → (hands_words (A x s) || hands_record (A x s)) ≡ true)
-    (put : List ℕ → Record → Record) (puts : (x : Call) (s v : List ℕ) → keeping (S.act (A x s)) v ≡ put v) where
-  abbrev pub HandSaid : Picked → List ℕ → Moved → Type 0
-  HandSaid p s m = m ≡ handed_move p (S.act_of (bare_of p.stored) p.call.clock (A p.call s))
-
-  abbrev pub MadeSaid : Call → List ℕ → List ℕ → Type 0
-  MadeSaid c s v = v ≡ kept_in (S.act (A c s))
-
-  abbrev pub PlacedSaid : List Record → Moved → List ℕ → Called → List Record → Type 0
-  PlacedSaid ys m v r zs = (r ≡ m.told) × (zs ≡ put_at (put v) m.keep ys)
-
-  pub handed_follows : (ys : List Record) (c : Call) (s : List ℕ) (p : Picked) (us : List Record) (m : Moved) (v : List ℕ)
-      (t : Called) (us₂ : List Record) (r : Called) (zs : List Record)
-      → PickSaid ys c p us → HandSaid p s m → MadeSaid c s v → SettleSaid us m t us₂ → PlacedSaid us₂ m v r zs
-      → CallSays (on_entry (λ e. S.act_of e c.clock (A c s)) R.Entry (lent c.gateway ys) c.clock false c.entry) zs r
-  handed_follows ys c s p us m v t us₂ r zs e₁ e₂ e e₃ e₄ =
-      let a = A c s in
-      let o = acts ys c a (silent c s) in
-      let k : is_done o.answer ≡ keeps (S.act a) o.answer = sym (and-true (is_done o.answer))
-      ∙ ap (λ (b : Bool). is_done o.answer && b) (sym (hands c s)) in
-      let g = act_moves ys c a (silent c s) m (is_done o.answer)
-      (subst (λ (x : Picked). HandSaid x s m) e₁.0 e₂) k in
-      let l = act_lands ys c a (silent c s) m v g (λ h. e) in
+  -- an act that hands words or an error record over, which the record keeps
+  pub handed_follows : hands ≡ true → (gives : Stepped → Type 0) → ((s : Stepped) → gives s → s ≡ plain_step acts)
+      → (leaves : Record → Record → Type 0)
+      → ((x y : Record) → leaves x y → y ≡ keeping (S.act a) (kept_in (S.act a)) x)
+      → (m : Moved) → ActMoves entered gives true m → (r : Called) (zs : List Record) → r ≡ m.told
+      → PutBy leaves m.keep (settled ys m) zs → CallSays comes zs r
+  handed_follows some gives law leaves puts m w r zs told left =
+      let l = act_lands m (kept_in (S.act a)) (act_moves gives true m law (sym some) w) (λ h. refl) in
       record {
-        told = e₄.0 ∙ l.told;
-        left = e₄.1 ∙ ap (λ (f : Record → Record). put_at f m.keep us₂) (sym (puts c s v))
-            ∙ ap (put_at (keeping (S.act a) v) m.keep) (e₃.1 ∙ ap (λ (x : List Record). settled x m) e₁.1)
-            ∙ l.left;
+        told = told ∙ l.told;
+        left = put_is leaves (keeping (S.act a) (kept_in (S.act a))) m.keep (settled ys m) zs puts left ∙ l.left;
       }
 
 -- ---- calls that are lent an output and keep nothing, with this handed over
-module _ (k : S.Call) (no_show_law : is_show k ≡ false) (none : (a : Answer) → keeps k a ≡ false) where
-  abbrev pub OutputSaid : Picked → Handed → List ℕ → Moved → List ℕ → Type 0
-  OutputSaid p w out m out' =
-      StepMoves p (before p (is_short (length out)) R.Entry)
-      (S.step_of (with_held w (bare_of p.stored)) p.call.clock k) false out out' m
+module _ (ys : List Record) (c : Call) (k : S.Call) (no_show_law : is_show k ≡ false) (none : (a : Answer) → keeps k a ≡ false)
+    (w : Handed) (reads : Reads (record_at ys c.entry) c.clock k no_show_law w) (out out' : List ℕ) where
+  abbrev does : Outcome
+  does = S.step_of (with_held w (bare_of (picked_of ys c).stored)) c.clock k
 
-  output_follows : (ys : List Record) (c : Call) (w : Handed) (out : List ℕ) (m : Moved) (out' : List ℕ) (r : Called)
-      (zs : List Record)
-      → Reads (record_at ys c.entry) c.clock k no_show_law w → OutputSaid (picked_of ys c) w out m out'
-      → SettleSaid ys m r zs
+  pub output_follows : (m : Moved)
+      → StepMoves (picked_of ys c) (before (picked_of ys c) (is_short (length out)) R.Entry) does false out out' m
+      → (r : Called) (zs : List Record) → (r ≡ m.told) × (zs ≡ settled ys m)
       → OutputSays (on_entry (λ e. S.step_of e c.clock k) R.Entry (lent c.gateway ys) c.clock (is_short (length out))
       c.entry) zs out out' r
-  output_follows ys c w out m out' r zs reads e₂ e₃ =
+  output_follows m u r zs e =
       let n = c.entry in
       let q = picked_of ys c in
       let short = is_short (length out) in
-      let o = S.step_of (with_held w (bare_of q.stored)) c.clock k in
-      let g : m ≡ outcome_move q (before q short R.Entry) o (keeps k o.answer) =
-      e₂.moves ∙ ap (outcome_move q (before q short R.Entry) o) (sym (none o.answer)) in
+      let g : m ≡ outcome_move q (before q short R.Entry) does (keeps k does.answer) =
+      u.moves ∙ ap (outcome_move q (before q short R.Entry) does) (sym (none does.answer)) in
       record {
-        told = e₃.0 ∙ ap (λ (x : Moved). x.told) g
+        told = e.0 ∙ ap (λ (x : Moved). x.told) g
             ∙ (entry_lands ys c n k no_show_law w reads short R.Entry no_bytes
-            (λ h. absurd (false≢true (sym (none o.answer) ∙ h)))).told;
-        left = e₃.1 ∙ ap (settled ys) g ∙ entry_settles ys c n k no_show_law w reads short R.Entry (none o.answer);
-        output = e₂.output ∙ ap (λ (z : List ℕ). over z out) (entry_writes ys c n k no_show_law w reads short R.Entry);
+            (λ h. absurd (false≢true (sym (none does.answer) ∙ h)))).told;
+        left = e.1 ∙ ap (settled ys) g ∙ entry_settles ys c n k no_show_law w reads short R.Entry (none does.answer);
+        output = u.output ∙ ap (λ (z : List ℕ). over z out) (entry_writes ys c n k no_show_law w reads short R.Entry);
       }
 
 -- a stop looks at nothing of it
-abbrev pub StopSaid : Picked → List ℕ → Moved → List ℕ → Type 0
-StopSaid p out m out' = OutputSaid (S.act S.stop) refl (λ a. and-false (is_done a)) p none_handed out m out'
-
-pub stop_follows : (ys : List Record) (c : Call) (out : List ℕ) (p : Picked) (us : List Record) (m : Moved)
-    (out' : List ℕ) (r : Called) (zs : List Record)
-    → PickSaid ys c p us → StopSaid p out m out' → SettleSaid us m r zs
+pub stop_follows : (ys : List Record) (c : Call) (out out' : List ℕ) (m : Moved)
+    → StepMoves (picked_of ys c) (before (picked_of ys c) (is_short (length out)) R.Entry)
+    (stop_of (bare_of (picked_of ys c).stored) c.clock) false out out' m
+    → (r : Called) (zs : List Record) → (r ≡ m.told) × (zs ≡ settled ys m)
     → OutputSays (stop_in (lent c.gateway ys) c.clock (length out) c.entry) zs out out' r
-stop_follows ys c out p us m out' r zs e₁ e₂ e₃ =
-    output_follows (S.act S.stop) refl (λ a. and-false (is_done a)) ys c none_handed out m out' r zs
-    (λ h. absurd (false≢true h)) (subst (λ (x : Picked). StopSaid x out m out') e₁.0 e₂)
-    (subst (λ (x : List Record). SettleSaid x m r zs) e₁.1 e₃)
+stop_follows ys c =
+    output_follows ys c (S.act S.stop) refl (λ a. and-false (is_done a)) none_handed (λ h. absurd (false≢true h))
 
--- where S-RefreshReady is due, what is read is the record's
-handed_read : (ys : List Record) (p : Picked) → is (request_of (state_from p.stored.state)) K.RefreshReady ≡ true
-    → handed_at ys p ≡ handed_of (record_at ys p.spot)
-handed_read ys p h =
-    ap (λ (i : ℕ). handed_of (record_at ys i))
-    (cond_true (is (request_of (state_from p.stored.state)) K.RefreshReady) p.spot p.room h)
-
-abbrev pub SendSaid : Picked → Handed → List ℕ → List ℕ → Moved → List ℕ → Type 0
-SendSaid p w value out m out' = OutputSaid (S.send value) refl (λ a. refl) p w out m out'
-
-pub send_follows : (ys : List Record) (c : Call) (value out : List ℕ) (p : Picked) (us : List Record) (w : Handed)
-    (us₂ : List Record) (m : Moved) (out' : List ℕ) (r : Called) (zs : List Record)
-    → PickSaid ys c p us → HandedSaid us p w us₂ → SendSaid p w value out m out' → SettleSaid us₂ m r zs
+pub send_follows : (ys : List Record) (c : Call) (value out out' : List ℕ) (m : Moved)
+    → StepMoves (picked_of ys c) (before (picked_of ys c) (is_short (length out)) R.Entry)
+    (send_of (with_held (handed_of (record_at ys c.entry)) (bare_of (picked_of ys c).stored)) c.clock value) false out out' m
+    → (r : Called) (zs : List Record) → (r ≡ m.told) × (zs ≡ settled ys m)
     → OutputSays (send_in (lent c.gateway ys) c.clock (length out) c.entry value) zs out out' r
-send_follows ys c value out p us w us₂ m out' r zs e₁ e e₂ e₃ =
-    let is : w ≡ handed_at ys (picked_of ys c) = e.0 ∙ (λ i. handed_at (e₁.1 i) (e₁.0 i)) in
-    output_follows (S.send value) refl (λ a. refl) ys c w out m out' r zs
-    (λ h. is ∙ handed_read ys (picked_of ys c) h) (subst (λ (x : Picked). SendSaid x w value out m out') e₁.0 e₂)
-    (subst (λ (x : List Record). SettleSaid x m r zs) (e.1 ∙ e₁.1) e₃)
+send_follows ys c value =
+    output_follows ys c (S.send value) refl (λ a. refl) (handed_of (record_at ys c.entry)) (λ h. refl)
 
 -- ---- show
 -- bytes that count nowhere are not shown
@@ -273,26 +222,23 @@ module _ (r : Record) (u : ℕ) where
       go true = refl
       go false = refl
 
-pub show_follows : (ys : List Record) (c : Call) (out : List ℕ) (p : Picked) (us : List Record) (v : List ℕ)
-    (us₂ : List Record) (m : Moved) (out' : List ℕ) (r : Called) (zs : List Record)
-    → PickSaid ys c p us → ReadSaid us c v us₂ → ShowMoves p v out out' m → SettleSaid us₂ m r zs
+pub show_follows : (ys : List Record) (c : Call) (out out' : List ℕ) (m : Moved) (r : Called) (zs : List Record)
+    → ShowMoves (picked_of ys c) (record_at ys c.entry).value out out' m → (r ≡ m.told) × (zs ≡ settled ys m)
     → OutputSays (show_in (lent c.gateway ys) c.clock (length out) c.entry) zs out out' r
 unfolding endpoint_at
-show_follows ys c out p us v us₂ m out' r zs e₁ e e₂ e₃ =
+show_follows ys c out out' m r zs w e =
     let q = picked_of ys c in
     let rec = record_at ys c.entry in
     let a = show_answer q (is_short (length out)) in
     let d = lent c.gateway ys in
-    let is : v ≡ rec.value = e.0 ∙ ap (λ (l : List Record). held_at l c) e₁.1 in
-    let w = subst (λ (x : List ℕ). ShowMoves q x out out' m) is (subst (λ (x : Picked). ShowMoves x v out out' m) e₁.0 e₂) in
     let shows : m ≡ cond (is_done a) (shown_move q (length (shown_of (read rec c.clock))) (is_fail_safe (read rec c.clock))
     (shown_age (read rec c.clock) c.clock)) (refused_move q a) =
     w.moves ∙ (λ i. cond (is_done a) (shown_move q (length (shown_read rec c.clock i)) (marked_read rec c.clock i)
     (aged_read rec c.clock i)) (refused_move q a)) in
     let s = show_settles ys c (read rec c.clock) a in
     record {
-      told = e₃.0 ∙ ap (λ (x : Moved). x.told) shows ∙ s.told;
-      left = e₃.1 ∙ ap (λ (x : List Record). settled x m) (e.1 ∙ e₁.1) ∙ ap (settled ys) shows ∙ s.left;
+      told = e.0 ∙ ap (λ (x : Moved). x.told) shows ∙ s.told;
+      left = e.1 ∙ ap (settled ys) shows ∙ s.left;
       output = w.output ∙ ap (λ (x : List ℕ). over (cond (is_done a) x []) out) (shown_read rec c.clock)
           ∙ ap (λ (x : List ℕ). over x out) (go rec (is_done a) a d);
     }
@@ -367,29 +313,29 @@ module _ (ys : List Record) (c : Call) (w : Handed) (s out out' : List ℕ) (m :
     }
 
   -- a frame whose connection was found, or not
-  module _ (f : Fields) (start end : ℕ) (is : reading_of s ≡ Frame f start end) where
+  module _ (f : Fields) (start end : ℕ) (is : reading_of s ≡ Ok (frame_with f start end)) where
     abbrev body : List ℕ
     body = slice start end s
 
     abbrev i : ℕ
-    i = spot_of ys (sought_of c (connection_in s))
+    i = spot_of ys c (connection_in s)
 
     place_is : place_of f.connection d ≡ i
     unfolding place_of
-    place_is = ap (λ (cid : ℕ). spot_of ys (sought_of c cid)) (sym (locates s f start end is).connection)
+    place_is = ap (spot_of ys c) (sym (locates s f start end is).connection)
 
     frame_in : Result
     frame_in = on_entry (λ e. S.step_of e c.clock (S.deliver f body)) R.Unknown d c.clock short i
 
     abbrev Moves : Picked → Type 0
-    Moves p = FrameMoves p w s (Frame f start end) out out' m × (w ≡ handed_at ys p)
+    Moves p = FrameMoves p w s (Ok (frame_with f start end)) out out' m × (w ≡ handed_of (record_at ys p.spot))
 
     met_comes : Moves (picked (record_at ys i).stored c (length ys) i) → Comes frame_in
     unfolding frame_in
     met_comes u =
         let k = S.deliver f body in
         let reads : Reads (record_at ys i) c.clock k refl w =
-        λ h. u.1 ∙ handed_read ys (picked (record_at ys i).stored c (length ys) i) h in
+        λ h. u.1 in
         record {
           lands = subst (λ (z : Moved). Lands ys c z (λ x. with_value x v) frame_in) (sym u.0.moves)
               (entry_lands ys c i k refl w reads short R.Unknown v (λ h. ap padded_of (locates s f start end is).body));
@@ -398,7 +344,7 @@ module _ (ys : List Record) (c : Call) (w : Handed) (s out out' : List ℕ) (m :
         }
 
     unmet_comes : (ltb i c.gateway.count && ltb i (length ys)) ≡ false
-        → FrameMoves (picked blank_record.stored c (length ys) (length ys)) w s (Frame f start end) out out' m
+        → FrameMoves (picked blank_record.stored c (length ys) (length ys)) w s (Ok (frame_with f start end)) out out' m
         → Comes frame_in
     unfolding frame_in endpoint_at
     unmet_comes h u =
@@ -427,7 +373,7 @@ module _ (ys : List Record) (c : Call) (w : Handed) (s out out' : List ℕ) (m :
             absurd (false≢true (sym h ∙ (λ j. e j && lt-ltb i (length ys) (omega (arith, l, n)) j))))
             (λ e. e)
 
-    frame_comes : Moves (met_of ys (sought_of c (connection_in s))) → Comes frame_in
+    frame_comes : Moves (met_of ys c (connection_in s)) → Comes frame_in
     frame_comes u =
         let there = picked (record_at ys i).stored c (length ys) i in
         let nowhere = picked blank_record.stored c (length ys) (length ys) in
@@ -436,8 +382,8 @@ module _ (ys : List Record) (c : Call) (w : Handed) (s out out' : List ℕ) (m :
         (λ h. met_comes (subst Moves (cond_true b there nowhere h) u))
         (λ h. unmet_comes h (subst Moves (cond_false b there nowhere h) u).0)
 
-    read_comes : Moves (met_of ys (sought_of c (connection_in s)))
-        → Comes (by_reading d c.clock (length out) s (Frame f start end))
+    read_comes : Moves (met_of ys c (connection_in s))
+        → Comes (by_reading d c.clock (length out) s (Ok (frame_with f start end)))
     unfolding frame_in
     read_comes u =
         subst (λ (n : ℕ). Comes (on_entry (λ e. S.step_of e c.clock (S.deliver f body)) R.Unknown d c.clock short n))
@@ -445,10 +391,10 @@ module _ (ys : List Record) (c : Call) (w : Handed) (s out out' : List ℕ) (m :
 
   -- what was sought is of this call, and of this slice
   abbrev sought : Picked
-  sought = met_of ys (sought_of c (connection_in s))
+  sought = met_of ys c (connection_in s)
 
   abbrev first : ℕ
-  first = spot_of ys (sought_of c (connection_in s))
+  first = spot_of ys c (connection_in s)
 
   abbrev chosen : Bool → Picked
   chosen b =
@@ -472,18 +418,18 @@ module _ (ys : List Record) (c : Call) (w : Handed) (s out out' : List ℕ) (m :
       (refused_comes sought.stored sought.spot
       (admit (is_reading c.gateway c.clock) (ltb (length ys) c.gateway.count) short a) 0)
 
-  by_reading_law : (x : Reading) → reading_of s ≡ x → w ≡ handed_at ys sought → FrameMoves sought w s x out out' m
+  by_reading_law : (x : Reading) → reading_of s ≡ x → w ≡ handed_of (record_at ys sought.spot) → FrameMoves sought w s x out out' m
       → Comes (by_reading d c.clock (length out) s x)
-  by_reading_law (Frame f start end) is w_is u = read_comes f start end is (u, w_is)
-  by_reading_law (Refused fault) is w_is u =
-      let a = Dropped (reason_of fault) in
+  by_reading_law (Ok read) is w_is u = read_comes read.fields read.start read.end is (u, w_is)
+  by_reading_law (Err fault) is w_is u =
+      let a = Err (Dropped (reason_of fault)) in
       let g = is_reading sought.call.gateway sought.call.clock in
       let l = ltb sought.room sought.call.gateway.count in
-      let k = step_refused sought (admitted sought short a) (frame_outcome sought w s (Refused fault)) false
+      let k = step_refused sought (admitted sought short a) (frame_outcome sought w s (Err fault)) false
       (not_done g l short (reason_of fault)) u in
       fault_comes a (not_ended g l short a refl) k.0 k.1
 
-  pub deliver_comes : w ≡ handed_at ys sought → DeliverMoves sought w s out out' m
+  pub deliver_comes : w ≡ handed_of (record_at ys sought.spot) → DeliverMoves sought w s out out' m
       → Comes (deliver_in d c.clock (length out) s)
   deliver_comes w_is u =
       let none = empty_cycle d c.clock short in
@@ -491,25 +437,22 @@ module _ (ys : List Record) (c : Call) (w : Handed) (s out out' : List ℕ) (m :
       bcase (eqb (length s) 0)
       (λ h. let e = u.empty h in
       subst Comes (sym (cond_true (eqb (length s) 0) none some h))
-      (fault_comes Done (not_ended (is_reading sought.call.gateway sought.call.clock)
-      (ltb sought.room sought.call.gateway.count) short Done refl) e.moves e.output))
+      (fault_comes (Ok tt) (not_ended (is_reading sought.call.gateway sought.call.clock)
+      (ltb sought.room sought.call.gateway.count) short (Ok tt) refl) e.moves e.output))
       (λ h. subst Comes (sym (cond_false (eqb (length s) 0) none some h)) (by_reading_law (reading_of s) refl w_is (u.frame h)))
 
-pub deliver_follows : (ys : List Record) (c : Call) (s out : List ℕ) (k : Sought) (p : Picked) (us : List Record)
-    (w : Handed) (us₂ : List Record) (m : Moved) (out' : List ℕ) (v : List ℕ) (t : Called) (us₃ : List Record) (r : Called)
-    (zs : List Record)
-    → k ≡ sought_of c (connection_in s) → SeekSaid ys k p us → HandedSaid us p w us₂ → DeliverMoves p w s out out' m
-    → v ≡ padded_of (body_in s) → SettleSaid us₂ m t us₃ → PutSaid us₃ m v r zs
+pub deliver_follows : (ys : List Record) (c : Call) (s out out' : List ℕ) (w : Handed) (m : Moved)
+    → w ≡ handed_of (record_at ys (met_of ys c (connection_in s)).spot)
+    → DeliverMoves (met_of ys c (connection_in s)) w s out out' m
+    → (leaves : Record → Record → Type 0)
+    → ((x y : Record) → leaves x y → y ≡ with_value x (padded_of (body_in s)))
+    → (r : Called) (us zs : List Record) → (r ≡ m.told) × (us ≡ settled ys m) → PutBy leaves m.keep us zs
     → OutputSays (deliver_in (lent c.gateway ys) c.clock (length out) s) zs out out' r
-deliver_follows ys c s out k p us w us₂ m out' v t us₃ r zs e₀ e₁ e₂ e₃ e e₄ e₅ =
-    let q : p ≡ met_of ys (sought_of c (connection_in s)) = e₁.0 ∙ ap (met_of ys) e₀ in
-    let u = deliver_comes ys c w s out out' m (e₂.0 ∙ (λ i. handed_at (e₁.1 i) (q i)))
-    (subst (λ (x : Picked). DeliverMoves x w s out out' m) q e₃) in
+deliver_follows ys c s out out' w m is e leaves puts r us zs said left =
+    let u = deliver_comes ys c w s out out' m is e in
+    let put : Record → Record = λ x. with_value x (padded_of (body_in s)) in
     record {
-      told = e₅.0 ∙ u.lands.told;
-      left = e₅.1 ∙ ap (λ (b : List ℕ). value_at m.keep b us₃) e
-          ∙ ap (value_at m.keep (padded_of (body_in s)))
-          (e₄.1 ∙ ap (λ (l : List Record). settled l m) (e₂.1 ∙ e₁.1))
-          ∙ u.lands.left;
+      told = said.0 ∙ u.lands.told;
+      left = put_is leaves put m.keep us zs puts left ∙ ap (put_at put m.keep) said.1 ∙ u.lands.left;
       output = u.writes;
     }

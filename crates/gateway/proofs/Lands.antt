@@ -1,23 +1,26 @@
 -- What a call's own step moves is what the call comes to: its answer, and the records that it leaves.
 use mathlib.Core.Path.{◌≡◌, refl, sym, ap, subst, ◌∙◌}
+use Rattle.std.specs.Prelude.{Err, Ok}
+use Rattle.std.specs.Prelude.{Option, None, Some}
 use mathlib.Core.Bool.{Bool, true, false, ◌&&◌, ◌||◌, not, cond, beq, true≢false, false≢true}
-use mathlib.Core.List.{List, [], ◌∷◌}
+use mathlib.Core.List.{List, []}
 use mathlib.Mathlib.Data.Bool.Basic.{and_elim_left, and_elim_right}
-use Prim.Native.Nat.{ℕ, zero, suc, ◌<◌, ◌≤◌}
+use Prim.Native.Nat.{ℕ, ◌<◌, ◌≤◌}
 use native.Mathlib.Omega.{arith}
+use Rattle.std.proofs.Common.{inl, inr}
+use Rattle.std.proofs.lemmas.Bool.{cases_lt}
 use lib.Dec.{ltb}
 use lib.ListN.{length, set, length-set}
-use lib.Seq.{get_or-set_same}
+use Rattle.std.proofs.lemmas.List.{get_or-set_same, set-set}
 use borrow.Author.Tests.{ltb-true, ltb-false}
 use Rattle.frame.specs.declared.Command.TheVariants as K
 use Rattle.frame.specs.declared.Fields.{Fields}
 use Rattle.frame.specs.Control.{is}
 use Rattle.endpoint.specs.Endpoint.{Endpoint, no_bytes, core_of}
-use Rattle.endpoint.specs.declared.Age.TheVariants.{None}
 use Rattle.endpoint.specs.declared.Reason.{Reason}
 use Rattle.endpoint.specs.declared.Reason.TheVariants as R
-use Rattle.endpoint.specs.declared.Answer.{Answer}
-use Rattle.endpoint.specs.declared.Answer.TheVariants.{Done, Dropped, Ended}
+use Rattle.endpoint.specs.Answers.{Answer}
+use Rattle.endpoint.specs.declared.Refusal.TheVariants.{Dropped, Ended}
 use Rattle.endpoint.specs.Answers.{first_of, is_done, is_ended, left_by}
 use Rattle.endpoint.specs.Time.{is_expired, ended_of}
 use Rattle.transitions.specs.ByFrame.{refreshed_of}
@@ -40,22 +43,16 @@ use Rattle.records.proofs.Records.{records}
 use Rattle.lent.specs.First.{on_first, length_first, get_d_below, set_past}
 use Rattle.gateway.specs.declared.Call.{Call}
 use Rattle.gateway.specs.declared.Picked.{Picked}
-use Rattle.gateway.specs.declared.Handed.{Handed}
 use Rattle.gateway.specs.declared.Moved.{Moved}
 use Rattle.gateway.specs.Tables.{Lent, lent, record_at, blank_record, endpoint_at, ticked, clock_step}
 use Rattle.gateway.specs.Tables.{is_reading, at_clock}
-use Rattle.gateway.specs.Calls.{Absent, At, Result, admit, admit_entry, acted_of, refused_of, on_entry, shown_in, called_by}
-use Rattle.gateway.specs.Calls.{called_of, is_named, entry_number}
+use Rattle.gateway.specs.Calls.{Result, admit, admit_entry, acted_of, refused_of, on_entry, shown_in, called_by}
+use Rattle.gateway.specs.Calls.{called_of}
 use Rattle.gateway.specs.Parts.{with_stored, with_value, with_words, with_error_info, stored_at, value_at, picked}
-use Rattle.gateway.specs.Parts.{with_held, handed_of, opens, stepped_record}
+use Rattle.gateway.specs.Parts.{Handed, with_held, handed_of, opens, stepped_record, PutBy}
 use Rattle.gateway.specs.Parts.{settled, before, refused_move, acted_move, shown_move, outcome_move}
 
 -- ---- stores into a list
-set_set : {R : Type 0} (ys : List R) (i : ℕ) (a b : R) → set (set ys i a) i b ≡ set ys i b
-set_set [] i a b = refl
-set_set (y ∷ ys) zero a b = refl
-set_set (y ∷ ys) (suc i) a b = ap (λ (zs : List _). y ∷ zs) (set_set ys i a b)
-
 -- one record replaced by what is made of it; past the slice none
 abbrev pub put_at : (Record → Record) → ℕ → List Record → List Record
 put_at put n rs = set rs n (put (record_at rs n))
@@ -63,11 +60,20 @@ put_at put n rs = set rs n (put (record_at rs n))
 put_past : (put : Record → Record) (xs : List Record) (n : ℕ) → length xs ≤ n → put_at put n xs ≡ xs
 put_past put xs n h = sym (set_past xs n (put (record_at xs n)) h)
 
+-- one record by what is made of it, where only one thing can be
+pub put_is : (R : Record → Record → Type 0) (put : Record → Record) (n : ℕ) (xs zs : List Record)
+    → ((r r' : Record) → R r r' → r' ≡ put r) → PutBy R n xs zs → zs ≡ put_at put n xs
+put_is R put n xs zs law u =
+    elim (cases_lt n (length xs)) [
+      | inl l ↦ let k = u.kept l in k.2 ∙ ap (set xs n) (law (record_at xs n) k.0 k.1)
+      | inr l ↦ u.past l ∙ sym (put_past put xs n l)
+    ]
+
 -- a record just stored, and put at its place or past the slice
 put_over : (put : Record → Record) (xs : List Record) (n room : ℕ) (r : Record) (b : Bool) → n < length xs
     → length xs ≤ room → put_at put (cond b n room) (set xs n r) ≡ set xs n (cond b (put r) r)
 put_over put xs n room r true h past =
-    ap (λ (x : Record). set (set xs n r) n (put x)) (get_or-set_same xs n r blank_record h) ∙ set_set xs n r (put r)
+    ap (λ (x : Record). set (set xs n r) n (put x)) (get_or-set_same xs n r blank_record h) ∙ set-set xs n r (put r)
 put_over put xs n room r false h past =
     let l = length-set xs n r in put_past put (set xs n r) room (omega (arith, l, past))
 
@@ -137,9 +143,9 @@ not_both (S.write_error body) = refl
 
 -- a value that is accepted is taken
 left_taken : (a : Answer) (x y z : Endpoint) → is_done a ≡ true → z.value.taken ≡ true → (left_by a x y z).value.taken ≡ true
-left_taken Done x y z h q = q
-left_taken (Dropped r) x y z h q = absurd (false≢true h)
-left_taken (Ended r) x y z h q = absurd (false≢true h)
+left_taken (Ok _) x y z h q = q
+left_taken (Err (Dropped r)) x y z h q = absurd (false≢true h)
+left_taken (Err (Ended r)) x y z h q = absurd (false≢true h)
 
 module _ (e : Endpoint) (t : ℕ) (f : Fields) (body : List ℕ) where
   deliver_taken : (is_done (deliver_of e t f body).answer && is f.command K.Refresh) ≡ true
@@ -272,7 +278,7 @@ pub record Told (r s w o : Bool) : Type 0 where
   pub timely : o ≡ false
 
 pub tells : (reading shorter short within over : Bool) (absent : Reason)
-    → is_done (admit reading shorter short (admit_entry within absent (cond over (Ended R.Expired) Done))) ≡ true
+    → is_done (admit reading shorter short (admit_entry within absent (cond over (Err (Ended R.Expired)) (Ok tt)))) ≡ true
     → Told reading shorter within over
 tells false shorter short within over absent h = absurd (false≢true h)
 tells true true short within over absent h = absurd (false≢true h)
@@ -331,20 +337,16 @@ module _ (ys : List Record) (c : Call) where
     gateway_left true = refl
     gateway_left false = refl
 
-    named : (b : Bool) (n : ℕ) → is_named (cond b (At n) Absent) ≡ b
-    named true n = refl
-    named false n = refl
-
-    numbered : (b : Bool) (n : ℕ) → (b ≡ true → spot ≡ n) → cond b spot 0 ≡ entry_number (cond b (At n) Absent)
-    numbered true n h = h refl
-    numbered false n h = refl
+    named : (b : Bool) (n : ℕ) → (b ≡ true → spot ≡ n) → cond {A = Option ℕ} b (Some spot) None ≡ cond b (Some n) None
+    named true n h = ap Some (h refl)
+    named false n h = refl
 
     pub refused_lands : (a : Answer) (n : ℕ) (put : Record → Record) → (is_ended a ≡ true → spot ≡ n)
         → Lands (refused_move at a) put (refused_of a t n d)
     refused_lands a n put h =
         let m = refused_move at a in
         record {
-          told = (λ i. called_by (gateway_left (opens at) i) a (sym (named (is_ended a) n) i) (numbered (is_ended a) n h i) 0 false None);
+          told = (λ i. called_by (gateway_left (opens at) i) a (named (is_ended a) n h i) 0 false None);
           left = put_past put (settled ys m) (length ys) (omega (arith, length_settled m))
               ∙ past_settled s (cond (opens at) c.gateway.count 0) ∙ stepped (opens at);
         }
@@ -384,7 +386,7 @@ module _ (ys : List Record) (c : Call) where
         let s = stored_of does.endpoint in
         let q = length_after in
         record {
-          told = (λ j. called_by (at_clock t c.gateway) (sym l.answered j) true n
+          told = (λ j. called_by (at_clock t c.gateway) (sym l.answered j) (Some n)
               (length (bytes_of (sym l.writes j))) false None);
           left = fields (keeping k v) after n (length ys) s taken kept (omega (arith, q, i)) (omega (arith, q))
               ∙ ap (λ (r : Record). set after n (cond kept (keeping k v (settled_record r s taken)) (settled_record r s taken)))

@@ -1,6 +1,5 @@
 -- What the calls are made of, and what they come to.
 pub mod InMemory
-pub mod Parts
 pub mod BodyPart
 pub mod OwnStep
 pub mod Lands

@@ -19,8 +19,8 @@ of_answer false s x y z h k l = l
 pub numbers : Numbers
 numbers = record {
   loaded = λ number ws rs. of_answer (is_list ws) (ltb (length rs) (count_of ws)) _ _ _ refl refl refl;
-  plain = λ r rs c s. ap (λ (x : Called). x.number) s.told;
-  lent = λ r rs out out' c s. ap (λ (x : Called). x.number) s.told;
+  plain = λ r rs c s. ap (λ (x : Called). number_of x.answer) s.told;
+  lent = λ r rs out out' c s. ap (λ (x : Called). number_of x.answer) s.told;
   plain_told = λ r k k' rs t s. ap (λ (x : Told). x.number) s.told;
   lent_told = λ r k k' rs out out' t s. ap (λ (x : Told). x.number) s.told;
 }

@@ -1,26 +1,28 @@
 -- What C is told by a call that it lends, and what the lent call then holds: the gateway of the answer.
 use Rattle.std.specs.Prelude.{◌≡◌, false, List, ℕ}
+use Rattle.std.specs.Prelude.{None}
 use Rattle.words.specs.Output.{over}
 use Rattle.steps.specs.Frames.{bytes_of}
 use Rattle.records.specs.declared.Record.{Record}
-use Rattle.endpoint.specs.declared.Age.TheVariants.{None}
 use Rattle.gateway.specs.declared.Gateway.{Gateway}
 use Rattle.gateway.specs.declared.Call.{Call}
 use Rattle.gateway.specs.declared.Called.{Called}
 use Rattle.gateway.specs.declared.Told.{Told}
 use Rattle.gateway.specs.Loading.{loaded_of}
-use Rattle.gateway.specs.Calls.{Result, called_of, called_by}
+use Rattle.gateway.specs.Calls.{Result, called_of, called_by, is_named, entry_number, is_aged, ticks_in}
+use Rattle.endpoint.specs.Answers.{number_of}
+use Rattle.records.specs.Records.{flag_of}
 
 -- all but the gateway
 abbrev pub told_of : Called → Told
 told_of t = record {
   count = t.count;
-  entry = t.entry;
-  age = t.age;
-  named = t.named;
-  number = t.number;
-  failsafe = t.failsafe;
-  aged = t.aged;
+  entry = entry_number t.entry;
+  age = ticks_in t.age;
+  named = flag_of (is_named t.entry);
+  number = number_of t.answer;
+  failsafe = flag_of t.failsafe;
+  aged = flag_of (is_aged t.age);
 }
 
 -- all else of the call stays
@@ -51,6 +53,6 @@ pub record LentOutputSays (r : Result) (c c' : Call) (records : List Record) (ou
 -- loading answers no entry, and writes nothing; of the call it reads the session number
 pub record LentLoadSays (ws : List ℕ) (rs : List Record) (c c' : Call) (records : List Record) (t : Told) : Type 0 where
   pub told : t ≡ told_of (called_by (loaded_of c.session ws rs).lent.gateway (loaded_of c.session ws rs).answer
-      false 0 0 false None)
+      None 0 false None)
   pub kept : c' ≡ with_gateway c (loaded_of c.session ws rs).lent.gateway
   pub left : records ≡ (loaded_of c.session ws rs).lent.records

@@ -1,8 +1,9 @@
 -- Loading a settings list: 0, or number 18, or 2 where the slice is too short for it.
 use Rattle.std.specs.Prelude.{cond, List, ℕ, ltb, length}
+use Rattle.std.specs.Prelude.{Err, Ok}
 use Rattle.endpoint.specs.declared.Reason.TheVariants as R
-use Rattle.endpoint.specs.declared.Answer.{Answer}
-use Rattle.endpoint.specs.declared.Answer.TheVariants.{Done, Dropped}
+use Rattle.endpoint.specs.Answers.{Answer}
+use Rattle.endpoint.specs.declared.Refusal.TheVariants.{Dropped}
 use Rattle.transitions.specs.ByCall.{fresh_of}
 use Rattle.settings.specs.Lists.{count_of, settings_at, is_list}
 use Rattle.records.specs.declared.Record.{Record}
@@ -32,6 +33,6 @@ loaded a d = record { answer = a; lent = d }
 abbrev pub loaded_of : ℕ → List ℕ → List Record → Loaded
 loaded_of number ws rs =
     cond (is_list ws)
-    (cond (ltb (length rs) (count_of ws)) (loaded (Dropped R.Buffer) (lent (loaded_with 0) rs))
-    (loaded Done (lent (loaded_with (count_of ws)) (filled (fresh_at number ws) (count_of ws) rs))))
-    (loaded (Dropped R.Settings) (lent (loaded_with 0) rs))
+    (cond (ltb (length rs) (count_of ws)) (loaded (Err (Dropped R.Buffer)) (lent (loaded_with 0) rs))
+    (loaded (Ok tt) (lent (loaded_with (count_of ws)) (filled (fresh_at number ws) (count_of ws) rs))))
+    (loaded (Err (Dropped R.Settings)) (lent (loaded_with 0) rs))

@@ -19,10 +19,10 @@ pub record Numbers : Type 0 where
   pub loaded : (number : ℕ) (ws : List ℕ) (rs : List Record)
       → number_of (loaded_of number ws rs).answer ≡ cond (is_list ws) (cond (ltb (length rs) (count_of ws)) 2 0) 18
   -- start, restart, set not ready, set and clear result, set and clear record, invoke, read and write error
-  pub plain : (r : Result) (rs : List Record) (c : Called) → CallSays r rs c → c.number ≡ number_in r
+  pub plain : (r : Result) (rs : List Record) (c : Called) → CallSays r rs c → number_of c.answer ≡ number_in r
   -- send, stop, show, deliver
   pub lent : (r : Result) (rs : List Record) (out out' : List ℕ) (c : Called) → OutputSays r rs out out' c
-      → c.number ≡ number_in r
+      → number_of c.answer ≡ number_in r
   -- and what C is told of each
   pub plain_told : (r : Result) (k k' : Call) (rs : List Record) (t : Told) → LentCallSays r k k' rs t
       → t.number ≡ number_in r

@@ -1,42 +1,35 @@
 -- The parts of a call: what it picks of the records, what its own step makes of that, and what is then stored.
 use Rattle.std.specs.Prelude.{◌≡◌, Bool, true, false, ◌&&◌, not, cond, List, [], ℕ, eqb, ltb, length, set}
+use Rattle.std.specs.Prelude.{Err, None, Ok, Option, Result, Some, ◌<◌, ◌≤◌}
+use Rattle.frame.specs.Reading.{Reading}
 use Rattle.std.proofs.Math.Seq.{slice}
 use Rattle.words.specs.Output.{over}
 use Rattle.frame.specs.declared.Command.TheVariants as K
-use Rattle.frame.specs.declared.Reading.{Reading}
-use Rattle.frame.specs.declared.Reading.TheVariants.{Frame, Refused}
 use Rattle.frame.specs.Control.{is}
 use Rattle.frame.specs.Reading.{reading_of}
 use Rattle.endpoint.specs.Endpoint.{Endpoint, no_bytes, bare, core_of}
-use Rattle.endpoint.specs.declared.Age.{Age}
-use Rattle.endpoint.specs.declared.Age.TheVariants.{None}
 use Rattle.endpoint.specs.declared.Reason.{Reason}
 use Rattle.endpoint.specs.declared.Reason.TheVariants as R
-use Rattle.endpoint.specs.declared.Answer.{Answer}
-use Rattle.endpoint.specs.declared.Answer.TheVariants.{Done, Dropped}
+use Rattle.endpoint.specs.Answers.{Answer}
+use Rattle.endpoint.specs.declared.Refusal.TheVariants.{Dropped}
 use Rattle.endpoint.specs.Answers.{is_done, is_ended}
-use Rattle.endpoint.specs.Table.{request_of}
 use Rattle.endpoint.specs.Time.{is_expired, after_tick}
 use Rattle.steps.specs.declared.Stepped.{Stepped}
 use Rattle.steps.specs.Frames.{nothing, bytes_of}
 use Rattle.steps.specs.Calls.{Outcome, outcome, is_fail_safe, shown_of, shown_age}
 use Rattle.steps.specs.Deliveries.{deliver_of}
-use Rattle.steps.specs.Says.{stepped_of, plain_step}
+use Rattle.steps.specs.Says.{stepped_of}
 use Rattle.steps.specs.Values.{with_bytes, with_handed}
 use Rattle.settings.specs.Lists.{count_of, is_list}
 use Rattle.records.specs.declared.Stored.{Stored}
 use Rattle.records.specs.declared.Record.{Record}
-use Rattle.records.specs.Records.{state_from, bare_of, stored_of, record_with, ended_stored}
+use Rattle.records.specs.Records.{bare_of, stored_of, record_with, ended_stored}
 use Rattle.lent.specs.First.{on_first, seek_in}
 use Rattle.gateway.specs.declared.Call.{Call}
 use Rattle.gateway.specs.declared.Called.{Called}
-use Rattle.gateway.specs.declared.Sought.{Sought}
 use Rattle.gateway.specs.declared.Picked.{Picked}
-use Rattle.gateway.specs.declared.Handed.{Handed}
 use Rattle.gateway.specs.declared.Moved.{Moved}
-use Rattle.gateway.specs.declared.Plan.{Plan}
 use Rattle.gateway.specs.Tables.{blank_record, record_at, has_connection, is_reading, at_clock}
-use Rattle.gateway.specs.Loading.{loaded_with}
 use Rattle.gateway.specs.Calls.{admit, admit_entry, timely, is_short, reason_of, called_by}
 
 -- ---- one field of a record replaced
@@ -58,12 +51,6 @@ stored_at n s rs = set rs n (with_stored (record_at rs n) s)
 abbrev pub value_at : ℕ → List ℕ → List Record → List Record
 value_at n bytes rs = set rs n (with_value (record_at rs n) bytes)
 
-abbrev pub words_at : ℕ → List ℕ → List Record → List Record
-words_at n bytes rs = set rs n (with_words (record_at rs n) bytes)
-
-abbrev pub error_info_at : ℕ → List ℕ → List Record → List Record
-error_info_at n bytes rs = set rs n (with_error_info (record_at rs n) bytes)
-
 -- ---- what a call picks: by its entry, or by a frame's CID
 abbrev pub picked : Stored → Call → ℕ → ℕ → Picked
 picked s c room spot = record { stored = s; call = c; room = room; spot = spot }
@@ -71,38 +58,30 @@ picked s c room spot = record { stored = s; call = c; room = room; spot = spot }
 abbrev pub picked_of : List Record → Call → Picked
 picked_of rs c = picked (record_at rs c.entry).stored c (length rs) c.entry
 
-abbrev pub held_at : List Record → Call → List ℕ
-held_at rs c = (record_at rs c.entry).value
-
 -- what its user has handed over
+pub record Handed : Type 0 where
+  pub words : List ℕ
+  pub errorinfo : List ℕ
+
 abbrev pub handed : List ℕ → List ℕ → Handed
 handed words errorinfo = record { words = words; errorinfo = errorinfo }
 
 abbrev pub with_held : Handed → Endpoint → Endpoint
 with_held h e = with_handed h.words h.errorinfo e
 
--- it is looked at where S-RefreshReady is due alone; elsewhere what stands past the slice is taken for it
-abbrev pub handed_spot : Picked → ℕ
-handed_spot p = cond (is (request_of (state_from p.stored.state)) K.RefreshReady) p.spot p.room
-
 abbrev pub handed_of : Record → Handed
 handed_of r = handed r.words r.errorinfo
 
-abbrev pub handed_at : List Record → Picked → Handed
-handed_at rs p = handed_of (record_at rs (handed_spot p))
+-- a frame's CID
+abbrev pub spot_of : List Record → Call → ℕ → ℕ
+spot_of rs c cid = seek_in (has_connection cid) c.gateway.count rs
 
-abbrev pub sought_of : Call → ℕ → Sought
-sought_of c cid = record { call = c; connection = cid }
-
-abbrev pub spot_of : List Record → Sought → ℕ
-spot_of rs k = seek_in (has_connection k.connection) k.call.gateway.count rs
-
--- where no record has it, past the slice
-abbrev pub met_of : List Record → Sought → Picked
-met_of rs k =
-    cond (ltb (spot_of rs k) k.call.gateway.count && ltb (spot_of rs k) (length rs))
-    (picked (record_at rs (spot_of rs k)).stored k.call (length rs) (spot_of rs k))
-    (picked blank_record.stored k.call (length rs) (length rs))
+-- where no record of the table has it, past the slice
+abbrev pub met_of : List Record → Call → ℕ → Picked
+met_of rs c cid =
+    cond (ltb (spot_of rs c cid) c.gateway.count && ltb (spot_of rs c cid) (length rs))
+    (picked (record_at rs (spot_of rs c cid)).stored c (length rs) (spot_of rs c cid))
+    (picked blank_record.stored c (length rs) (length rs))
 
 -- ---- what is stored
 -- the clock step on the first `steps` records, by their stored part
@@ -117,6 +96,11 @@ stepped_record t r =
 abbrev pub settled : List Record → Moved → List Record
 settled rs m =
     value_at m.wipe no_bytes (stored_at m.spot m.stored (on_first (stepped_record m.clock) m.steps rs))
+
+-- then one record by what is made of it; past the slice none
+pub record PutBy (R : Record → Record → Type 0) (n : ℕ) (rs rs' : List Record) : Type 0 where
+  pub past : length rs ≤ n → rs' ≡ rs
+  pub kept : n < length rs → (r : Record) × R (record_at rs n) r × (rs' ≡ set rs n r)
 
 -- ---- a call's own step
 module _ (p : Picked) where
@@ -156,8 +140,8 @@ module _ (p : Picked) where
   abbrev pub refused_move : Answer → Moved
   refused_move a =
       moved p.stored
-      (called_by (cond opens (at_clock p.call.clock p.call.gateway) p.call.gateway) a (is_ended a)
-      (cond (is_ended a) p.spot 0) 0 false None)
+      (called_by (cond opens (at_clock p.call.clock p.call.gateway) p.call.gateway) a
+      (cond (is_ended a) (Some p.spot) None) 0 false None)
       opens p.room p.room p.room
 
   -- the connection's own step: its stored part; the value is wiped where none is taken, and a new one kept, or what was
@@ -165,23 +149,25 @@ module _ (p : Picked) where
   abbrev pub acted_move : Stepped → Bool → Moved
   acted_move s kept =
       moved (stored_of (bare s.core))
-      (called_by (at_clock p.call.clock p.call.gateway) s.answer true p.spot s.count false None)
+      (called_by (at_clock p.call.clock p.call.gateway) s.answer (Some p.spot) s.count false None)
       true p.spot (cond s.core.taken p.room p.spot)
       (cond kept p.spot p.room)
 
-  abbrev pub shown_move : ℕ → Bool → Age → Moved
+  abbrev pub shown_move : ℕ → Bool → Option ℕ → Moved
   shown_move count failsafe age =
       moved p.stored
-      (called_by (at_clock p.call.clock p.call.gateway) Done true p.spot count failsafe age)
+      (called_by (at_clock p.call.clock p.call.gateway) (Ok tt) (Some p.spot) count failsafe age)
       true p.room p.room p.room
+
+  -- a call that is lent no output, whose own step is one of those that `gives` allows
+  pub record ActMoves (gives : Stepped → Type 0) (hands : Bool) (m : Moved) : Type 0 where
+    pub refused : is_done (before false R.Entry) ≡ false → m ≡ refused_move (before false R.Entry)
+    pub acted : is_done (before false R.Entry) ≡ true
+        → (s : Stepped) × gives s × (m ≡ acted_move s (is_done s.answer && hands))
 
   -- a call that is lent no output
   abbrev pub plain_move : Answer → Stepped → Bool → Moved
   plain_move a s kept = cond (is_done a) (acted_move s kept) (refused_move a)
-
-  -- a call that hands words or an error record over, kept where it is done
-  abbrev pub handed_move : Outcome → Moved
-  handed_move o = plain_move (before false R.Entry) (plain_step o) (is_done o.answer)
 
   -- a call that is lent one
   abbrev pub outcome_move : Answer → Outcome → Bool → Moved
@@ -198,7 +184,7 @@ module _ (p : Picked) where
   to_show bytes = with_bytes bytes (after_tick (bare_of p.stored) p.call.clock)
 
   abbrev pub show_answer : Bool → Answer
-  show_answer short = admitted_entry short R.Entry Done
+  show_answer short = admitted_entry short R.Entry (Ok tt)
 
   pub record ShowMoves (bytes : List ℕ) (out out' : List ℕ) (m : Moved) : Type 0 where
     pub moves : m ≡ cond (is_done (show_answer (is_short (length out))))
@@ -208,17 +194,17 @@ module _ (p : Picked) where
 
   -- a deliver, where w has been handed over
   abbrev pub frame_outcome : Handed → List ℕ → Reading → Outcome
-  frame_outcome w s (Refused fault) = outcome Done (bare_of p.stored) nothing
-  frame_outcome w s (Frame f start end) =
-      deliver_of (with_held w (bare_of p.stored)) p.call.clock f (slice start end s)
+  frame_outcome w s (Err fault) = outcome (Ok tt) (bare_of p.stored) nothing
+  frame_outcome w s (Ok read) =
+      deliver_of (with_held w (bare_of p.stored)) p.call.clock read.fields (slice read.start read.end s)
 
   abbrev pub frame_answer : Bool → Reading → Answer
-  frame_answer short (Refused fault) = admitted short (Dropped (reason_of fault))
-  frame_answer short (Frame f start end) = before short R.Unknown
+  frame_answer short (Err fault) = admitted short (Err (Dropped (reason_of fault)))
+  frame_answer short (Ok read) = before short R.Unknown
 
   abbrev pub accepts_value : Reading → Answer → Bool
-  accepts_value (Refused fault) a = false
-  accepts_value (Frame f start end) a = is_done a && is f.command K.Refresh
+  accepts_value (Err fault) a = false
+  accepts_value (Ok read) a = is_done a && is read.fields.command K.Refresh
 
   -- what a frame does, or bytes that are none
   abbrev pub FrameMoves : Handed → List ℕ → Reading → List ℕ → List ℕ → Moved → Type 0
@@ -227,7 +213,7 @@ module _ (p : Picked) where
       (accepts_value r (frame_outcome w s r).answer) out out' m
 
   pub record EmptyMoves (out out' : List ℕ) (m : Moved) : Type 0 where
-    pub moves : m ≡ refused_move (admitted (is_short (length out)) Done)
+    pub moves : m ≡ refused_move (admitted (is_short (length out)) (Ok tt))
     pub output : out' ≡ out
 
   -- an empty cycle, or a frame
@@ -235,11 +221,7 @@ module _ (p : Picked) where
     pub empty : eqb (length s) 0 ≡ true → EmptyMoves out out' m
     pub frame : eqb (length s) 0 ≡ false → FrameMoves w s (reading_of s) out out' m
 
--- ---- loading: what is told, and how many records are made
-abbrev pub plan_with : Answer → ℕ → ℕ → Plan
-plan_with a table made = record { told = called_by (loaded_with table) a false 0 0 false None; count = made }
-
-abbrev pub plan_of : List ℕ → ℕ → Plan
+-- ---- loading: how many records are made
+abbrev pub plan_of : List ℕ → ℕ → Result ℕ Reason
 plan_of ws n =
-    cond (is_list ws) (cond (ltb n (count_of ws)) (plan_with (Dropped R.Buffer) 0 0) (plan_with Done (count_of ws) (count_of ws)))
-    (plan_with (Dropped R.Settings) 0 0)
+    cond (is_list ws) (cond (ltb n (count_of ws)) (Err R.Buffer) (Ok (count_of ws))) (Err R.Settings)

@@ -1,22 +1,20 @@
 // Deliver: what a cycle of the bus brought.
 ghost use Rattle.std.specs.Prelude.{◌≡◌, length};
-ghost use Rattle.frame.specs.Reading.{connection_in, body_in};
+ghost use Rattle.frame.specs.Reading.{body_in};
 ghost use Rattle.steps.specs.Frames.{padded_of};
 ghost use Rattle.gateway.specs.Tables.{lent};
 ghost use Rattle.gateway.specs.Calls.{reason_of, deliver_in, OutputSays};
-ghost use Rattle.gateway.specs.Parts.{sought_of, DeliverMoves};
+ghost use Rattle.gateway.specs.Parts.{handed_of, DeliverMoves};
 
-use super::moves::{acted, admitted, before, refused};
-use super::slice::{handed_at, put_value, seek, settle};
-use super::{Call, Called, Handed, Moved, Picked, Sought};
-use endpoint::answers::is_done;
-use endpoint::{Answer, Reason};
-use frame::control::is;
+use super::slice::{held, put, record_at, seek, settle};
+use super::{Call, Called, Moved, Picked};
+use endpoint::{Reason, Refusal};
 use frame::read::{body_span, connection_in, read_frame};
-use frame::{Command, Fault, LONGEST_FRAME, Reading};
-use records::{Record, core_of};
+use frame::{Command, Fault, LONGEST_FRAME};
+use records::Record;
 use steps::queue::padded;
 
+// As a function, and no From: both types are other crates'.
 fn reason_of(fault: Fault) -> Reason
     ensures { result ≡ reason_of fault }
 {
@@ -28,74 +26,53 @@ fn reason_of(fault: Fault) -> Reason
     }
 }
 
-// The CID that the bytes have, should they be a frame.
-fn hear(c: Call, bytes: &[u8]) -> Sought
-    ensures { result ≡ sought_of c (connection_in bytes.now) }
-{
-    Sought {
-        call: c,
-        connection: connection_in(bytes),
-    }
-}
-
 // Zero bytes are nothing, other bytes a frame, or numbers 4 to 7. At a slave a request writes its reply, at a master the
-// reply to a queued command its result, or the station's error record. Its user has handed over h.
-fn do_deliver(p: Picked, h: Handed, bytes: &[u8], out: &mut [u8]) -> Moved
-    ensures { DeliverMoves p h bytes.now out.old out.new result }
+// reply to a queued command its result, or the station's error record. What its user has handed over is the record's.
+fn do_deliver(p: &Picked, record: &Record, bytes: &[u8], out: &mut [u8]) -> Moved
+    ensures { DeliverMoves p.now (handed_of record.now) bytes.now out.old out.new result }
 {
     let short = out.len() < LONGEST_FRAME;
-    if bytes.len() == 0 {
-        return refused(admitted(p, short, Answer::Done), p);
+    if bytes.is_empty() {
+        return p.refused(p.admitted(short));
     }
-    let reading = read_frame(bytes);
-    match reading {
-        Reading::Refused(fault) => {
-            let a = admitted(p, short, Answer::Dropped(reason_of(fault)));
-            refused(a, p)
-        }
-        Reading::Frame { fields, start, end } => {
-            let a = before(p, short, Reason::Unknown);
-            if !is_done(a) {
-                return refused(a, p);
+    match read_frame(bytes) {
+        Err(fault) => p.refused(
+            p.admitted(short)
+                .and(Err(Refusal::Dropped(reason_of(fault)))),
+        ),
+        Ok(frame) => match p.before(short, Reason::Unknown) {
+            Ok(()) => {
+                let body = &bytes[frame.start..frame.end];
+                let refreshes = frame.fields.command == Command::Refresh;
+                let step = steps::deliver::deliver(
+                    p.core(),
+                    held(record),
+                    p.call.clock,
+                    frame.fields,
+                    body,
+                    out,
+                );
+                p.acted(step, refreshes)
             }
-            let stored = p.stored;
-            let k = fields.command;
-            let words = h.words;
-            let errorinfo = h.errorinfo;
-            let step = steps::deliver::deliver(
-                core_of(stored),
-                &words,
-                &errorinfo,
-                p.call.clock,
-                fields,
-                &bytes[start..end],
-                out,
-            );
-            let answer = step.answer;
-            acted(step, is_done(answer) & is(k, Command::Refresh), p)
-        }
+            refused => p.refused(refused),
+        },
     }
 }
 
 // The value that the bytes carry, should they be a frame.
-fn body_of(m: Moved, bytes: &[u8]) -> [u8; 100]
+fn value_in(bytes: &[u8]) -> [u8; 100]
     ensures { result ≡ padded_of (body_in bytes.now) }
 {
-    let span = body_span(bytes.len());
-    let start = span.start;
-    let end = span.end;
-    padded(&bytes[start..end])
+    padded(&bytes[body_span(bytes.len())])
 }
 
 pub fn deliver(rs: &mut [Record], c: Call, bytes: &[u8], out: &mut [u8]) -> Called
     ensures { OutputSays (deliver_in (lent c.gateway rs.old) c.clock (length out.old)
         bytes.now) rs.new out.old out.new result }
 {
-    let k = hear(c, bytes);
-    let p = seek(rs, k);
-    let h = handed_at(rs, p);
-    let m = do_deliver(p, h, bytes, out);
-    let v = body_of(m, bytes);
-    let t = settle(rs, m);
-    put_value(rs, m, v)
+    let p = seek(rs, c, connection_in(bytes));
+    let m = do_deliver(&p, record_at(rs, p.spot), bytes, out);
+    let told = settle(rs, &m);
+    put(rs, m.keep, |record| record.value = value_in(bytes));
+    told
 }

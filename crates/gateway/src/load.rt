@@ -1,58 +1,39 @@
 // Loading a settings list.
-ghost use Rattle.std.specs.Prelude.{◌≡◌, length, ◌%◌};
-ghost use Rattle.gateway.specs.Loading.{fresh_at, loaded_with};
+ghost use Rattle.std.specs.Prelude.{◌≡◌, ◌≤◌, length};
+ghost use Rattle.lent.specs.First.{filled};
+ghost use Rattle.gateway.specs.Loading.{fresh_at};
 ghost use Rattle.gateway.specs.Calls.{LoadSays};
-ghost use Rattle.gateway.specs.Parts.{plan_with, plan_of};
+ghost use Rattle.gateway.specs.Parts.{plan_of};
 
-use super::moves::tell;
-use super::{Call, Called, Gateway, Plan};
-use endpoint::{Age, Answer, Reason};
-use records::{Record, stored_of};
+use super::{Call, Called, Gateway};
+use endpoint::{Reason, Refusal};
+use records::{Record, Stored};
 use transitions::by_call::fresh;
 
-fn loaded_with(count: usize) -> Gateway
-    ensures { result ≡ loaded_with count }
-{
-    Gateway {
-        last: 0,
-        count: count,
-    }
-}
-
-// The size of the table, and how many records are made.
-fn planned_with(a: Answer, table: usize, made: usize) -> Plan
-    ensures { result ≡ plan_with a table made }
-{
-    Plan {
-        told: tell(loaded_with(table), a, false, 0, 0, false, Age::None),
-        count: made,
-    }
-}
-
-// The answer, and how many records are made.
-fn planned(list: &[u32], n: usize) -> Plan
-    ensures { result ≡ plan_of list.now n }
+// How many connections a list has; or 18, or 2 for a slice of `room` records that is too short.
+fn planned(list: &[u32], room: usize) -> Result<usize, Reason>
+    ensures { result ≡ plan_of list.now room }
 {
     if !settings::is_list(list) {
-        return planned_with(Answer::Dropped(Reason::Settings), 0, 0);
+        return Err(Reason::Settings);
     }
     let count = list.len() / 7;
-    if n < count {
-        return planned_with(Answer::Dropped(Reason::Buffer), 0, 0);
+    if room < count {
+        return Err(Reason::Buffer);
     }
-    planned_with(Answer::Done, count, count)
+    Ok(count)
 }
 
-// The record of a list's connection, in Close; a slave's has the call's session number.
-fn make(c: Call, list: &[u32], i: usize) -> Record
-    ensures { result ≡ fresh_at c.session list.now (i % 256) }
+// The list's connections, in Close; its slaves with this session number.
+fn make(table: &mut [Record], session: u16, list: &[u32])
+    requires { length table.old ≤ 64 }
+    ensures { table.new ≡ filled (fresh_at session list.now) (length table.old) table.old }
 {
-    let stored = stored_of(fresh(settings::settings_at(list, (i % 256) as u8), c.session));
-    Record {
-        stored: stored,
-        value: [0; 100],
-        words: [0; 100],
-        errorinfo: [0; 56],
+    for (i, record) in table.iter_mut().enumerate() {
+        *record = Record {
+            stored: Stored::from(fresh(settings::settings_at(list, i as u8), session)),
+            ..Record::BLANK
+        };
     }
 }
 
@@ -61,12 +42,15 @@ fn make(c: Call, list: &[u32], i: usize) -> Record
 pub fn load(rs: &mut [Record], c: Call, list: &[u32]) -> Called
     ensures { LoadSays c.session list.now rs.old rs.new result }
 {
-    let n = rs.len();
-    let s = planned(list, n);
-    let mut i = 0;
-    while (i < s.count) & (i < rs.len()) {
-        rs[i] = make(c, list, i);
-        i += 1;
+    match planned(list, rs.len()) {
+        Ok(count) => {
+            make(&mut rs[..count], c.session, list);
+            Called::of(Gateway { last: 0, count }, Ok(()), None)
+        }
+        Err(reason) => Called::of(
+            Gateway { last: 0, count: 0 },
+            Err(Refusal::Dropped(reason)),
+            None,
+        ),
     }
-    s.told
 }

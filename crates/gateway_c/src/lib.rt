@@ -1,4 +1,5 @@
 // What C calls (include/folderpink.h): one export for each of gateway's functions of that name, with its clauses.
+// The fifteen stay beside gateway's own: the C interface needs a name for each.
 #![tactic(auto)]
 
 ghost use Rattle.std.specs.Prelude.{◌≡◌, length};

@@ -1,5 +1,8 @@
 -- What a call leaves: what the clock step does, and at most one record put over it, with the settings that it had.
 use mathlib.Core.Path.{◌≡◌, refl, sym, ap, subst, ◌∙◌}
+use Rattle.std.specs.Prelude.{Err, None, Ok, Option, Some, ℕ}
+use Rattle.frame.specs.Reading.{Reading}
+use Rattle.frame.specs.Reading.{frame_with}
 use mathlib.Core.Bool.{Bool, true, false, ◌&&◌, not, cond, false≢true}
 use mathlib.Core.List.{List, [], ◌∷◌}
 use Prim.Native.Nat.{ℕ, zero, suc, ◌≤◌, ◌<◌}
@@ -9,14 +12,12 @@ use lib.Dec.{eqb}
 use lib.ListN.{length, get_or, set, length-set}
 use lib.Seq.{slice, get_or-set_same, get_or-set_other}
 use borrow.Author.Tests.{ltb-true, eqb-true, eqb-false}
-use Rattle.frame.specs.declared.Reading.{Reading}
-use Rattle.frame.specs.declared.Reading.TheVariants.{Frame, Refused}
 use Rattle.frame.specs.Reading.{reading_of}
 use Rattle.endpoint.specs.declared.Settings.{Settings}
 use Rattle.endpoint.specs.Endpoint.{Endpoint}
 use Rattle.endpoint.specs.declared.Reason.{Reason}
 use Rattle.endpoint.specs.declared.Reason.TheVariants as R
-use Rattle.endpoint.specs.declared.Answer.TheVariants.{Done, Dropped, Ended}
+use Rattle.endpoint.specs.declared.Refusal.TheVariants.{Dropped, Ended}
 use Rattle.endpoint.specs.Answers.{is_done}
 use Rattle.endpoint.specs.Time.{is_expired}
 use Rattle.steps.specs.Calls.{Outcome, send_of}
@@ -31,7 +32,7 @@ use Rattle.records.specs.Records.{endpoint_of, record_of}
 use Rattle.lent.specs.First.{on_first, length_first, get_d_below}
 use Rattle.gateway.specs.Tables.{Lent, blank_record, record_at, endpoint_at, is_entry, is_shorter, place_of, is_reading}
 use Rattle.gateway.specs.Tables.{ticked, clock_step, is_timely, after_clock, placed}
-use Rattle.gateway.specs.Calls.{Entry, Absent, At, Result, acted_of, refused_of, before_entry, on_entry, is_short}
+use Rattle.gateway.specs.Calls.{Result, acted_of, refused_of, before_entry, on_entry, is_short}
 use Rattle.gateway.specs.Calls.{before_show, show_in, by_reading}
 use Rattle.gateway.proofs.Lands.{tells}
 use Rattle.runs.proofs.Reaching.{lends, act_in_law}
@@ -75,9 +76,9 @@ module _ (d : Lent) (t : ℕ) where
       (λ q. rw q)
 
 -- ---- what a call leaves, which may change the record of one entry
-pub data Leaves (d : Lent) (t : ℕ) (entry : Entry) : Lent → Type 0 where
+pub data Leaves (d : Lent) (t : ℕ) (entry : Option ℕ) : Lent → Type 0 where
   clocked : Leaves d t entry (after_clock t d)
-  put : (n : ℕ) (x : Endpoint) → entry ≡ At n → n < d.gateway.count → x.settings ≡ (endpoint_at d n).settings
+  put : (n : ℕ) (x : Endpoint) → entry ≡ Some n → n < d.gateway.count → x.settings ≡ (endpoint_at d n).settings
       → Leaves d t entry (placed n (record_of x) (after_clock t d))
 
 record_by : (n : ℕ) (b : Bool) (x y : Result)
@@ -89,13 +90,13 @@ record_by n false x y = refl
 module _ (d : Lent) (t : ℕ) where
   entry_leaves : (does : Endpoint → Outcome) (absent : Reason) (short : Bool) (n : ℕ)
       → ((e : Endpoint) → (does e).endpoint.settings ≡ e.settings)
-      → Leaves d t (At n) (on_entry does absent d t short n).lent
+      → Leaves d t (Some n) (on_entry does absent d t short n).lent
   entry_leaves does absent short n keeps =
       let x = is_expired (endpoint_at d n) t in
       bcase (is_done (before_entry absent d t short n))
       (λ h.
       let p = tells (is_reading d.gateway t) (is_shorter d) short (is_entry d n) x absent h in
-      rw h (subst (λ (c : Lent). Leaves d t (At n) (placed n (record_of (does (endpoint_at d n)).endpoint) c))
+      rw h (subst (λ (c : Lent). Leaves d t (Some n) (placed n (record_of (does (endpoint_at d n)).endpoint) c))
       (cond_true (is_timely d t) (clock_step t d) d (λ i. p.reading i && not (p.whole i)))
       (put n (does (endpoint_at d n)).endpoint refl (ltb-true n d.gateway.count p.entry) (keeps (endpoint_at d n)))))
       (λ h. rw h clocked)
@@ -115,24 +116,24 @@ module _ (d : Lent) (t : ℕ) where
       (get_or-set_same (clock_step t d).records n (record_of o.endpoint) blank_record
       (subst (λ (m : ℕ). n < m) (sym l) w))
 
-  act_leaves : (room : ℕ) (a : Act) (n : ℕ) → Leaves d t (At n) (act_in d t room a n).lent
+  act_leaves : (room : ℕ) (a : Act) (n : ℕ) → Leaves d t (Some n) (act_in d t room a n).lent
   act_leaves room a n =
-      subst (λ (r : Result). Leaves d t (At n) r.lent) (sym (act_in_law d t room a n))
+      subst (λ (r : Result). Leaves d t (Some n) r.lent) (sym (act_in_law d t room a n))
       (entry_leaves (λ e. S.act_of e t a) R.Entry (lends room a) n (λ e. step_laws.keeps e t (S.act a)))
 
-  show_leaves : (room n : ℕ) → Leaves d t Absent (show_in d t room n).lent
+  show_leaves : (room n : ℕ) → Leaves d t None (show_in d t room n).lent
   show_leaves room n =
       bcase (is_done (before_show d t (is_short room) n))
       (λ h.
       let p = tells (is_reading d.gateway t) (is_shorter d) (is_short room) (is_entry d n) false R.Entry h in
-      rw h (subst (Leaves d t Absent) (cond_true (is_timely d t) (clock_step t d) d (λ i. p.reading i && not (p.whole i))) clocked))
+      rw h (subst (Leaves d t None) (cond_true (is_timely d t) (clock_step t d) d (λ i. p.reading i && not (p.whole i))) clocked))
       (λ h. rw h clocked)
 
   reading_leaves : (room : ℕ) (s : List ℕ) (r : Reading) → Leaves d t (entry_in d r) (by_reading d t room s r).lent
-  reading_leaves room s (Refused fault) = clocked
-  reading_leaves room s (Frame f from to) =
-      entry_leaves (λ e. deliver_of e t f (slice from to s)) R.Unknown (is_short room) (place_of f.connection d)
-      (λ e. step_laws.keeps e t (S.deliver f (slice from to s)))
+  reading_leaves room s (Err fault) = clocked
+  reading_leaves room s (Ok read) =
+      entry_leaves (λ e. deliver_of e t read.fields (slice read.start read.end s)) R.Unknown (is_short room) (place_of read.fields.connection d)
+      (λ e. step_laws.keeps e t (S.deliver read.fields (slice read.start read.end s)))
 
   pub leaves : (room : ℕ) (c : Call) → Leaves d t (entry_of d c) (call_in d t room c).lent
   leaves room (act a n) = act_leaves room a n
@@ -143,7 +144,7 @@ module _ (d : Lent) (t : ℕ) where
   leaves room (show n) = show_leaves room n
 
   -- ---- so at most one record is changed
-  changes : {entry : Entry} {after : Lent} → Leaves d t entry after → ChangesOne d t entry after
+  changes : {entry : Option ℕ} {after : Lent} → Leaves d t entry after → ChangesOne d t entry after
   changes clocked =
       record { gateway = refl; whole = clock_length d t; others = λ i h. refl; past = clock_past d t }
   changes (put n x at l k) =
@@ -152,7 +153,7 @@ module _ (d : Lent) (t : ℕ) where
       record {
         gateway = refl;
         whole = length-set c n r ∙ clock_length d t;
-        others = λ i h. get_or-set_other c n i r blank_record (λ e. h (at ∙ ap At (sym e)));
+        others = λ i h. get_or-set_other c n i r blank_record (λ e. h (at ∙ ap Some (sym e)));
         past = λ i h. get_or-set_other c n i r blank_record (λ e. absurd (omega (arith, e))) ∙ clock_past d t i h;
       }
 
@@ -166,7 +167,7 @@ module _ (d : Lent) (t : ℕ) where
       ap (λ (r : Record). r.stored.connection) (clock_below d t i l w)
       ∙ bcase (is_timely d t) (λ q. rw q (cid_ticked (record_at d.records i))) (λ q. rw q)
 
-  cid_kept : {entry : Entry} {after : Lent} → Leaves d t entry after
+  cid_kept : {entry : Option ℕ} {after : Lent} → Leaves d t entry after
       → (i : ℕ) → i < d.gateway.count → i < length d.records
       → (record_at after.records i).stored.connection ≡ (record_at d.records i).stored.connection
   unfolding endpoint_at

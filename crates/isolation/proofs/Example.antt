@@ -2,6 +2,8 @@
 -- started, a command performed and a value shown there, with other calls in between. The premises and both runs are
 -- computed.
 use mathlib.Core.Path.{◌≡◌, refl, sym, ◌∙◌}
+use Rattle.std.specs.Prelude.{Err, Ok}
+use Rattle.std.specs.Prelude.{None, Option, Some, ℕ}
 use mathlib.Core.Bool.{true, false, cond}
 use mathlib.Core.List.{List, [], ◌∷◌, ◌++◌}
 use Prim.Native.Nat.{ℕ, ◌+◌}
@@ -10,23 +12,18 @@ use lib.ListN.{replicate}
 use Rattle.crc.specs.Crc.{bit_step, bit_steps, byte_step, crc_from, crc}
 use Rattle.frame.specs.declared.Command.{Command}
 use Rattle.frame.specs.declared.Command.TheVariants as K
-use Rattle.frame.specs.declared.Subconnection.{Subconnection}
-use Rattle.frame.specs.declared.Subconnection.TheVariants.{Absent, Number}
 use Rattle.frame.specs.Control.{is, control_of, has_form}
 use Rattle.frame.specs.Reading.{has_check_word, fields_in, reading_of_copies, reading_of}
 use Rattle.frame.specs.Writing.{head_bytes, with_check_word, twice, sub_bytes, frame_bytes}
 use Rattle.endpoint.specs.declared.Reason.TheVariants as R
-use Rattle.endpoint.specs.declared.Age.{Age}
-use Rattle.endpoint.specs.declared.Age.TheVariants.{None, Ticks}
-use Rattle.endpoint.specs.declared.Answer.{Answer}
-use Rattle.endpoint.specs.declared.Answer.TheVariants.{Done, Dropped}
+use Rattle.endpoint.specs.Answers.{Answer}
+use Rattle.endpoint.specs.declared.Refusal.TheVariants.{Dropped}
 use Rattle.steps.specs.Frames.{Written, nothing, frame, value, sent_fields, ack_fields, setup_data, handed_over}
 use Rattle.steps.specs.Steps.{start, set_not_ready, set_result, clear_result, invoke}
 use Rattle.settings.specs.Lists.{connection_at, settings_at, is_connection_at, is_new_at, are_connections, is_list}
 use Rattle.records.specs.declared.Record.{Record}
 use Rattle.gateway.specs.Tables.{blank_record, endpoint_at, place_of, clock_step}
 use Rattle.gateway.specs.Loading.{loaded_of}
-use Rattle.gateway.specs.Calls.{Entry, Absent, At}
 use Rattle.runs.specs.Steps.{Call, act, send, deliver, show}
 use Rattle.isolation.specs.Isolation.{LoadedAlike, Event, event, same, others, AlikeAll, none, next, Told, told_of}
 use Rattle.isolation.proofs.Isolation.{isolation}
@@ -67,8 +64,8 @@ data_of_law : Command → List ℕ
 data_of_law k = setup_data (settings_at station 0) k
 
 -- a request of the station's master, at the station; S-Connect has no session number
-session_for : Command → Subconnection
-session_for k = cond (is k K.Connect) Absent (Number number)
+session_for : Command → Option ℕ
+session_for k = cond (is k K.Connect) None (Some number)
 
 request : ℕ → Command → ℕ → Event
 request t k baseline =
@@ -88,7 +85,7 @@ refresh =
 
 -- a frame of a CID that the first gateway holds at entry 0, the second at entry 2
 elsewhere : Call
-elsewhere = deliver (frame_bytes (sent_fields K.Refresh false true Absent 0x01100111 60 0) (9 ∷ 9 ∷ 9 ∷ 9 ∷ []))
+elsewhere = deliver (frame_bytes (sent_fields K.Refresh false true None 0x01100111 60 0) (9 ∷ 9 ∷ 9 ∷ 9 ∷ []))
 
 run : List Event
 run =
@@ -136,14 +133,14 @@ alike =
     (next (same _ _ _ refl) none))))))))))))))
 
 -- ---- what the station's calls tell
-abbrev telling : Age → Answer → Entry → Written → Told
+abbrev telling : Option ℕ → Answer → Option ℕ → Written → Told
 telling age a n w = record { answer = a; entry = n; writes = w; failsafe = false; age = age }
 
-abbrev tell : Answer → Entry → Written → Told
+abbrev tell : Answer → Option ℕ → Written → Told
 tell a n w = telling None a n w
 
 replied_with : List ℕ → ℕ → Command → Told
-replied_with body t k = tell Done (At 1) (frame (ack_fields k false false false (Number number) cid t) body)
+replied_with body t k = tell (Ok tt) (Some 1) (frame (ack_fields k false false false (Some number) cid t) body)
 
 replied : ℕ → Command → Told
 replied t k = replied_with (data_of_law k) t k
@@ -155,13 +152,13 @@ answers =
     replied 10 K.Connect
     ∷ replied 20 K.ConfirmNetwork
     ∷ replied 30 K.VerifyStation
-    ∷ tell Done (At 1) nothing
+    ∷ tell (Ok tt) (Some 1) nothing
     ∷ replied_with result 35 K.InvokeFunc
     ∷ replied 40 K.RefreshReady
     ∷ replied 50 K.RefreshGo
-    ∷ tell Done (At 1) nothing
-    ∷ tell (Dropped R.Buffer) Absent nothing
-    ∷ telling (Ticks 12) Done (At 1) (value (1 ∷ 2 ∷ 3 ∷ 4 ∷ [])) ∷ []
+    ∷ tell (Ok tt) (Some 1) nothing
+    ∷ tell (Err (Dropped R.Buffer)) None nothing
+    ∷ telling (Some 12) (Ok tt) (Some 1) (value (1 ∷ 2 ∷ 3 ∷ 4 ∷ [])) ∷ []
 
 computed : told_of 1 (connection_at list 1) (loaded_of number list lent).lent run ≡ answers
 unfolding number session_for run request result result_set refresh elsewhere data_of_law seven station list lent cid replied_with replied

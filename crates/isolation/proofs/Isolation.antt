@@ -1,5 +1,8 @@
 -- Two runs, alike for one connection: its record, and all that its calls look at beside it, stay the same in both.
 use mathlib.Core.Path.{◌≡◌, refl, sym, ap, ap₂, subst, subst₂, ◌∙◌}
+use Rattle.std.specs.Prelude.{Err, None, Ok, Option, Some, ℕ}
+use Rattle.frame.specs.Reading.{Reading}
+use Rattle.frame.specs.Reading.{frame_with}
 use mathlib.Core.Bool.{Bool, true, false, ◌&&◌, ◌||◌, not, cond, false≢true}
 use mathlib.Core.List.{List, [], ◌∷◌}
 use Prim.Native.Nat.{ℕ, suc, ◌+◌, ◌*◌, ◌<◌}
@@ -9,17 +12,12 @@ use lib.ListN.{length, get_or, drop, take}
 use lib.Seq.{slice, get_or-take, get_or-drop}
 use borrow.Author.Tests.{eqb-true}
 use Rattle.frame.specs.declared.Fault.TheVariants as F
-use Rattle.frame.specs.declared.Reading.{Reading}
-use Rattle.frame.specs.declared.Reading.TheVariants.{Frame, Refused}
 use Rattle.frame.specs.Reading.{reading_of}
 use Rattle.endpoint.specs.declared.Settings.{Settings}
 use Rattle.endpoint.specs.Endpoint.{Endpoint}
 use Rattle.endpoint.specs.declared.Reason.{Reason}
 use Rattle.endpoint.specs.declared.Reason.TheVariants as R
-use Rattle.endpoint.specs.declared.Age.{Age}
-use Rattle.endpoint.specs.declared.Age.TheVariants.{None}
-use Rattle.endpoint.specs.declared.Answer.{Answer}
-use Rattle.endpoint.specs.declared.Answer.TheVariants.{Done}
+use Rattle.endpoint.specs.Answers.{Answer}
 use Rattle.endpoint.specs.Answers.{is_done}
 use Rattle.endpoint.specs.Time.{last_reading, after_tick}
 use Rattle.transitions.specs.ByCall.{fresh_of}
@@ -36,7 +34,7 @@ use Rattle.gateway.specs.declared.Gateway.{Gateway}
 use Rattle.gateway.specs.Tables.{Lent, record_at, endpoint_at, is_entry, is_shorter, place_of, is_reading, ticked, is_timely}
 use Rattle.gateway.specs.Tables.{after_clock}
 use Rattle.gateway.specs.Loading.{loaded_of}
-use Rattle.gateway.specs.Calls.{Entry, At, Result, refused_entry, refused_of, acted_of, before_entry, on_entry, is_short}
+use Rattle.gateway.specs.Calls.{Result, refused_entry, refused_of, acted_of, before_entry, on_entry, is_short}
 use Rattle.gateway.specs.Calls.{send_in, before_show, show_in, shown_in, by_reading, empty_cycle, deliver_in}
 use Rattle.runs.proofs.Reaching.{lends, act_in_law}
 use Rattle.runs.specs.Bus.{is_of}
@@ -49,7 +47,7 @@ use Rattle.isolation.proofs.Tables.{Table, counted, within, is_entry_law, not_sh
 use Rattle.isolation.proofs.Tables.{table_kept, loaded_with_law, loaded_at, loaded_table}
 
 -- ---- what a call on an entry tells: by its answer before the step, and by the step
-abbrev tell : Answer → Entry → Written → Bool → Age → Told
+abbrev tell : Answer → Option ℕ → Written → Bool → Option ℕ → Told
 tell a entry w failsafe age = record { answer = a; entry = entry; writes = w; failsafe = failsafe; age = age }
 
 abbrev told_by : Answer → ℕ → Told → Told
@@ -60,7 +58,7 @@ told_cond true x y = refl
 told_cond false x y = refl
 
 -- no bytes are no frame
-no_frame : (s : List ℕ) → eqb (length s) 0 ≡ true → reading_of s ≡ Refused F.Length
+no_frame : (s : List ℕ) → eqb (length s) 0 ≡ true → reading_of s ≡ Err F.Length
 unfolding reading_of
 no_frame [] z = refl
 no_frame (x ∷ s) z = let q = eqb-true (suc (length s)) 0 z in absurd (omega (arith, q))
@@ -119,7 +117,7 @@ module _ (e : ℕ) (ws ws' : List ℕ) where
         let c = record_at (after_clock t d').records e in
         record {
           says = told_cond (is_done a) (acted_of o t e d) (refused_of a t e d)
-              ∙ ap₂ (λ (b : Answer) (x : Outcome). told_by b e (tell x.answer (At e) x.writes false None))
+              ∙ ap₂ (λ (b : Answer) (x : Outcome). told_by b e (tell x.answer (Some e) x.writes false None))
               (before_same absent short) (ap does endpoint_same)
               ∙ sym (told_cond (is_done a') (acted_of o' t e d') (refused_of a' t e d'));
           leaves = entry_record d t does absent short e (within ws d H.table e there)
@@ -140,7 +138,7 @@ module _ (e : ℕ) (ws ws' : List ℕ) where
         record {
           says = told_cond (is_done a) (shown_in x t e d) (refused_of a t e d)
               ∙ ap₂ (λ (b : Answer) (y : Endpoint). told_by b e
-              (tell Done (At e) (W.value (shown_of y)) (is_fail_safe y) (shown_age y t)))
+              (tell (Ok tt) (Some e) (W.value (shown_of y)) (is_fail_safe y) (shown_age y t)))
               q (ap (λ (y : Endpoint). after_tick y t) endpoint_same)
               ∙ sym (told_cond (is_done a') (shown_in x' t e d') (refused_of a' t e d'));
           leaves = (one_record d t room (show e)).others e absent_at ∙ clocked_same
@@ -150,13 +148,13 @@ module _ (e : ℕ) (ws ws' : List ℕ) where
     -- ---- a frame of its CID
     both_frame : (room : ℕ) (s : List ℕ) (r : Reading) → is_of (connection_at ws e) r ≡ true
         → Both (by_reading d t room s r) (by_reading d' t room s r)
-    both_frame room s (Refused fault) h = absurd (false≢true h)
-    both_frame room s (Frame f from to) h =
-        let does : Endpoint → Outcome = λ x. deliver_of x t f (slice from to s) in
-        let c = eqb-true f.connection (connection_at ws e) h in
-        let p : place_of f.connection d ≡ e =
+    both_frame room s (Err fault) h = absurd (false≢true h)
+    both_frame room s (Ok read) h =
+        let does : Endpoint → Outcome = λ x. deliver_of x t read.fields (slice read.start read.end s) in
+        let c = eqb-true read.fields.connection (connection_at ws e) h in
+        let p : place_of read.fields.connection d ≡ e =
         ap (λ (k : ℕ). place_of k d) c ∙ place_own ws d H.table e there in
-        let p' : place_of f.connection d' ≡ e =
+        let p' : place_of read.fields.connection d' ≡ e =
         ap (λ (k : ℕ). place_of k d') (c ∙ cid) ∙ place_own ws' d' H.table' e there' in
         subst₂ (λ (n m : ℕ). Both (on_entry does R.Unknown d t (is_short room) n)
         (on_entry does R.Unknown d' t (is_short room) m)) (sym p) (sym p') (both_entry does R.Unknown (is_short room))

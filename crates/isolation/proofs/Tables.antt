@@ -1,5 +1,8 @@
 -- The table of a loaded list: a call keeps its size and its CIDs, and each entry is the place of its CID.
 use mathlib.Core.Path.{◌≡◌, sym, ap, subst, ◌∙◌}
+use Rattle.std.specs.Prelude.{Err, None, Ok, Some}
+use Rattle.frame.specs.Reading.{Reading}
+use Rattle.frame.specs.Reading.{frame_with}
 use mathlib.Core.Bool.{Bool, true, false, false≢true}
 use mathlib.Core.List.{List, [], ◌∷◌}
 use Prim.Native.Nat.{ℕ, zero, suc, ◌≤◌, ◌<◌}
@@ -10,10 +13,7 @@ use mathlib.Mathlib.Data.Bool.Basic.{and_elim_left, and_elim_right}
 use lib.Dec.{ltb}
 use lib.ListN.{length, get_or}
 use borrow.Author.Tests.{ltb-false, eqb-true, eqb-false, lt-ltb, le-ltb, eq-eqb, ne_eqb, not-true}
-use Rattle.frame.specs.declared.Reading.{Reading}
-use Rattle.frame.specs.declared.Reading.TheVariants.{Frame, Refused}
 use Rattle.frame.specs.Reading.{reading_of}
-use Rattle.endpoint.specs.declared.Answer.TheVariants.{Done}
 use Rattle.endpoint.specs.Answers.{is_done}
 use Rattle.steps.proofs.Keeps.{bcase}
 use Rattle.settings.specs.Lists.{connection_at, settings_at, is_connection_at, is_new_at, are_connections, count_of}
@@ -25,7 +25,7 @@ use Rattle.gateway.specs.declared.Gateway.{Gateway}
 use Rattle.gateway.specs.Tables.{Lent, lent, blank_record, record_at, is_entry, is_shorter, has_connection, place_of}
 use Rattle.gateway.specs.Tables.{after_clock}
 use Rattle.gateway.specs.Loading.{loaded_with, fresh_at, loaded_of}
-use Rattle.gateway.specs.Calls.{Absent, At, is_named, entry_number}
+use Rattle.gateway.specs.Calls.{is_named, entry_number}
 use Rattle.runs.proofs.Loaded.{are_at, new_at}
 use Rattle.runs.specs.Bus.{is_of}
 use Rattle.runs.specs.Steps.{Call, act, send, deliver, show, call_in}
@@ -58,7 +58,7 @@ module _ {A : Type 0} (hit : A → Bool) where
       seek_found i m ys d (le_of_suc-le-suc l) (le_of_suc-le-suc w) (omega (arith, z)))
 
 -- ---- a table of the list's connections
-pub absent_at : {i : ℕ} → Absent ≡ At i → ⊥
+pub absent_at : {i : ℕ} → None ≡ Some i → ⊥
 absent_at h = false≢true (ap is_named h)
 
 pub record Table (ws : List ℕ) (d : Lent) : Type 0 where
@@ -96,12 +96,12 @@ module _ (ws : List ℕ) (d : Lent) (T : Table ws d) (e : ℕ) (there : e < coun
       ne (sym (eqb-true (record_at d.records e).stored.connection cid q) ∙ T.cids e there)
 
   -- ---- a call that is not for the connection has another entry, and leaves its record to the clock step
-  other_frame : (r : Reading) → is_of (connection_at ws e) r ≡ false → entry_in d r ≡ At e → ⊥
-  other_frame (Frame f from to) h q =
-      place_other f.connection (eqb-false f.connection (connection_at ws e) h) (ap entry_number q)
-  other_frame (Refused fault) h q = absent_at q
+  other_frame : (r : Reading) → is_of (connection_at ws e) r ≡ false → entry_in d r ≡ Some e → ⊥
+  other_frame (Ok read) h q =
+      place_other read.fields.connection (eqb-false read.fields.connection (connection_at ws e) h) (ap entry_number q)
+  other_frame (Err fault) h q = absent_at q
 
-  other_entry : (c : Call) → is_for e (connection_at ws e) c ≡ false → entry_of d c ≡ At e → ⊥
+  other_entry : (c : Call) → is_for e (connection_at ws e) c ≡ false → entry_of d c ≡ Some e → ⊥
   other_entry (act a n) h q = eqb-false n e h (ap entry_number q)
   other_entry (send n value) h q = eqb-false n e h (ap entry_number q)
   other_entry (deliver s) h q = other_frame (reading_of s) h q
@@ -131,7 +131,7 @@ pub record LoadedWith (number : ℕ) (ws : List ℕ) (rs : List Record) : Type 0
   pub right : is_list ws ≡ true
   pub whole : count_of ws ≤ length rs
 
-pub loaded_with_law : (number : ℕ) (ws : List ℕ) (rs : List Record) → (loaded_of number ws rs).answer ≡ Done
+pub loaded_with_law : (number : ℕ) (ws : List ℕ) (rs : List Record) → (loaded_of number ws rs).answer ≡ Ok tt
     → LoadedWith number ws rs
 loaded_with_law number ws rs h =
     bcase (is_list ws)
@@ -140,14 +140,14 @@ loaded_with_law number ws rs h =
     (λ l. absurd (false≢true (ap is_done (rw l at h))))
 
 -- its connections, in Close, each at its entry
-pub loaded_at : (number : ℕ) (ws : List ℕ) (rs : List Record) → (loaded_of number ws rs).answer ≡ Done
+pub loaded_at : (number : ℕ) (ws : List ℕ) (rs : List Record) → (loaded_of number ws rs).answer ≡ Ok tt
     → (e : ℕ) → e < count_of ws → record_at (loaded_of number ws rs).lent.records e ≡ fresh_at number ws e
 loaded_at number ws rs h e l =
     let w = loaded_with_law number ws rs h in
     ap (λ (d : Lent). record_at d.records e) w.is
     ∙ filled_below (fresh_at number ws) (count_of ws) e rs blank_record l (let z = w.whole in omega arith)
 
-pub loaded_table : (number : ℕ) (ws : List ℕ) (rs : List Record) → (loaded_of number ws rs).answer ≡ Done
+pub loaded_table : (number : ℕ) (ws : List ℕ) (rs : List Record) → (loaded_of number ws rs).answer ≡ Ok tt
     → Table ws (loaded_of number ws rs).lent
 unfolding connection_at settings_at
 loaded_table number ws rs h =

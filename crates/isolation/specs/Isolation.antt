@@ -1,41 +1,40 @@
 -- A connection of a gateway beside the others, to be read beside document 02, note 11: the sentences that are about
 -- this stand here, each above what says it.
 use Rattle.std.specs.Prelude.{◌≡◌, Bool, true, false, cond, List, [], ◌∷◌, ℕ, ◌+◌, ◌*◌, ◌≤◌, ◌<◌, eqb, length, take}
+use Rattle.std.specs.Prelude.{Err, None, Ok, Option, Some}
+use Rattle.frame.specs.Reading.{Reading}
+use Rattle.frame.specs.Reading.{frame_with}
 use Rattle.std.proofs.Math.Seq.{slice}
-use Rattle.frame.specs.declared.Reading.{Reading}
-use Rattle.frame.specs.declared.Reading.TheVariants.{Frame, Refused}
 use Rattle.frame.specs.Reading.{reading_of}
-use Rattle.endpoint.specs.declared.Age.{Age}
-use Rattle.endpoint.specs.declared.Answer.{Answer}
-use Rattle.endpoint.specs.declared.Answer.TheVariants.{Done}
+use Rattle.endpoint.specs.Answers.{Answer}
 use Rattle.steps.specs.Frames.{Written}
 use Rattle.settings.specs.Lists.{connection_at, count_of}
 use Rattle.records.specs.declared.Record.{Record}
 use Rattle.gateway.specs.Tables.{Lent, record_at, place_of, after_clock}
 use Rattle.gateway.specs.Loading.{loaded_of}
-use Rattle.gateway.specs.Calls.{Entry, Absent, At, Result}
+use Rattle.gateway.specs.Calls.{Result}
 use Rattle.runs.specs.Steps.{Call, act, send, deliver, show, call_in}
 use Rattle.runs.specs.Bus.{is_frame_of}
 
 -- ---- "a delivery changes at most one record besides the clock step"; so does every other call
 -- a frame's entry is that of its CID; bytes that are no frame have none
-abbrev pub entry_in : Lent → Reading → Entry
-entry_in d (Frame f from to) = At (place_of f.connection d)
-entry_in d (Refused fault) = Absent
+abbrev pub entry_in : Lent → Reading → Option ℕ
+entry_in d (Ok read) = Some (place_of read.fields.connection d)
+entry_in d (Err fault) = None
 
 -- the entry whose record a call may change: the one that it names, or its frame's; a show changes none
-abbrev pub entry_of : Lent → Call → Entry
-entry_of d (act a n) = At n
-entry_of d (send n value) = At n
+abbrev pub entry_of : Lent → Call → Option ℕ
+entry_of d (act a n) = Some n
+entry_of d (send n value) = Some n
 entry_of d (deliver s) = entry_in d (reading_of s)
-entry_of d (show n) = Absent
+entry_of d (show n) = None
 
 -- what a call at t leaves of d, which may change the record of one entry
-pub record ChangesOne (d : Lent) (t : ℕ) (entry : Entry) (after : Lent) : Type 0 where
+pub record ChangesOne (d : Lent) (t : ℕ) (entry : Option ℕ) (after : Lent) : Type 0 where
   pub gateway : after.gateway ≡ (after_clock t d).gateway
   pub whole : length after.records ≡ length d.records
   -- every other record is as the clock step leaves it
-  pub others : (i : ℕ) → (entry ≡ At i → ⊥)
+  pub others : (i : ℕ) → (entry ≡ Some i → ⊥)
       → record_at after.records i ≡ record_at (after_clock t d).records i
   -- "Records past the table stay."
   pub past : (i : ℕ) → d.gateway.count ≤ i → record_at after.records i ≡ record_at d.records i
@@ -58,8 +57,8 @@ UpTo = (e : ℕ) (ws ws' : List ℕ) → AlikeUpTo e ws ws' → AlikeAt e ws ws'
 
 -- two lists loaded with one session number and answer 0, into whatever slices; e is an entry of both
 pub record LoadedAlike (number e : ℕ) (ws ws' : List ℕ) (rs rs' : List Record) : Type 0 where
-  pub done : (loaded_of number ws rs).answer ≡ Done
-  pub done' : (loaded_of number ws' rs').answer ≡ Done
+  pub done : (loaded_of number ws rs).answer ≡ Ok tt
+  pub done' : (loaded_of number ws' rs').answer ≡ Ok tt
   pub entry : e < count_of ws
   pub entry' : e < count_of ws'
   pub alike : AlikeAt e ws ws'
@@ -100,10 +99,10 @@ pub data AlikeAll (e cid : ℕ) : List Event → List Event → Type 0 where
 -- mark 'fail-safe'
 pub record Told : Type 0 where
   pub answer : Answer
-  pub entry : Entry
+  pub entry : Option ℕ
   pub writes : Written
   pub failsafe : Bool
-  pub age : Age
+  pub age : Option ℕ
 
 abbrev pub told : Result → Told
 told r =

@@ -1,5 +1,6 @@
 -- No frame is refused as too far ahead, number 14, but one that is very old.
 use mathlib.Core.Path.{◌≡◌, refl, sym, ap, subst, ◌∙◌}
+use Rattle.std.specs.Prelude.{Err, Ok}
 use mathlib.Core.Bool.{Bool, true, false, not, cond, beq, false≢true}
 use mathlib.Core.List.{List, [], ◌∷◌}
 use Prim.Native.Nat.{ℕ, ◌+◌, ◌-◌, ◌^◌, ◌<◌}
@@ -12,8 +13,8 @@ use Rattle.frame.specs.Control.{is}
 use Rattle.endpoint.specs.declared.Settings.{Settings}
 use Rattle.endpoint.specs.declared.State.TheVariants.{Refresh}
 use Rattle.endpoint.specs.declared.Reason.TheVariants as R
-use Rattle.endpoint.specs.declared.Answer.{Answer}
-use Rattle.endpoint.specs.declared.Answer.TheVariants.{Done, Dropped, Ended}
+use Rattle.endpoint.specs.Answers.{Answer}
+use Rattle.endpoint.specs.declared.Refusal.TheVariants.{Dropped, Ended}
 use Rattle.endpoint.specs.declared.Faults.{Faults}
 use Rattle.endpoint.specs.Endpoint.{Endpoint}
 use Rattle.endpoint.specs.Answers.{number_of, first_of}
@@ -47,29 +48,29 @@ record FirstAhead (f : Faults) : Type 0 where
   pub repeat : f.repeat ≡ false
   pub ahead : f.ahead ≡ true
 
-is_ahead_law : (b : Bool) (x : Answer) → (number_of x ≡ 14 → ⊥) → number_of (cond b (Dropped R.Ahead) x) ≡ 14 → b ≡ true
+is_ahead_law : (b : Bool) (x : Answer) → (number_of x ≡ 14 → ⊥) → number_of (cond b (Err (Dropped R.Ahead)) x) ≡ 14 → b ≡ true
 is_ahead_law true x n h = refl
 is_ahead_law false x n h = absurd (n h)
 
 -- what comes after it is another
 none_after : (f : Faults)
-    → number_of (cond f.late (Ended R.Late)
-    (cond f.unequal (Ended R.Unequal) (cond f.soon (Dropped R.TooSoon) Done))) ≡ 14
+    → number_of (cond f.late (Err (Ended R.Late))
+    (cond f.unequal (Err (Ended R.Unequal)) (cond f.soon (Err (Dropped R.TooSoon)) (Ok tt)))) ≡ 14
     → ⊥
 none_after f h =
-    let l = not_first f.late (Ended R.Late) _ (λ z. omega arith) h in
-    let u = not_first f.unequal (Ended R.Unequal) _ (λ z. omega arith) l.1 in
-    let s = not_first f.soon (Dropped R.TooSoon) Done (λ z. omega arith) u.1 in
+    let l = not_first f.late (Err (Ended R.Late)) _ (λ z. omega arith) h in
+    let u = not_first f.unequal (Err (Ended R.Unequal)) _ (λ z. omega arith) l.1 in
+    let s = not_first f.soon (Err (Dropped R.TooSoon)) (Ok tt) (λ z. omega arith) u.1 in
     omega arith
 
 first_ahead : (f : Faults) → number_of (first_of f) ≡ 14 → FirstAhead f
 first_ahead f h =
-    let t = not_first f.turn (Dropped R.Turn) _ (λ z. omega arith) h in
-    let s = not_first f.session (Dropped R.Session) _ (λ z. omega arith) t.1 in
-    let n = not_first f.norecord (Dropped R.Record) _ (λ z. omega arith) s.1 in
-    let w = not_first f.width (Dropped R.Width) _ (λ z. omega arith) n.1 in
-    let e = not_first f.exhausted (Ended R.Exhausted) _ (λ z. omega arith) w.1 in
-    let p = not_first f.repeat (Dropped R.Repeat) _ (λ z. omega arith) e.1 in
+    let t = not_first f.turn (Err (Dropped R.Turn)) _ (λ z. omega arith) h in
+    let s = not_first f.session (Err (Dropped R.Session)) _ (λ z. omega arith) t.1 in
+    let n = not_first f.norecord (Err (Dropped R.Record)) _ (λ z. omega arith) s.1 in
+    let w = not_first f.width (Err (Dropped R.Width)) _ (λ z. omega arith) n.1 in
+    let e = not_first f.exhausted (Err (Ended R.Exhausted)) _ (λ z. omega arith) w.1 in
+    let p = not_first f.repeat (Err (Dropped R.Repeat)) _ (λ z. omega arith) e.1 in
     record { turn = t.0; repeat = p.0; ahead = is_ahead_law f.ahead _ (none_after f) p.1 }
 
 -- ---- a frame that is refused so is an S-Refresh of the other end, in Refresh

@@ -1,16 +1,14 @@
 -- Each call at the master keeps the relation to the invariant.
 use mathlib.Core.Path.{◌≡◌, refl, sym, ap, subst, ◌∙◌}
+use Rattle.std.specs.Prelude.{None, Option, Some, ℕ}
 use mathlib.Core.Bool.{Bool, true, false, cond, true≢false, false≢true}
 use mathlib.Core.List.{List, [], ◌∷◌, ◌++◌}
-use mathlib.Core.Option.{some, none}
 use mathlib.Core.Logic.{⊎_elim}
 use Prim.Native.Nat.{ℕ, suc, ◌+◌, ◌-◌, ◌%◌, ◌^◌, ◌≤◌, ◌<◌}
 use native.Mathlib.Omega.{arith}
 use borrow.Author.Tests.{eqb-true}
 use Rattle.frame.specs.declared.Command.{Command}
 use Rattle.frame.specs.declared.Command.TheVariants as K
-use Rattle.frame.specs.declared.Subconnection.{Subconnection}
-use Rattle.frame.specs.declared.Subconnection.TheVariants.{Absent}
 use Rattle.frame.specs.declared.Fields.{Fields}
 use Rattle.frame.specs.Control.{is, code_of, may_be_busy, narrowed}
 use Rattle.endpoint.specs.declared.Settings.{Settings}
@@ -19,8 +17,6 @@ use Rattle.endpoint.specs.declared.State.TheVariants.{Close, Starting, Establish
 use Rattle.endpoint.specs.declared.State.TheVariants.{FuncRunning, RefreshPending, Refresh, Terminate}
 use Rattle.endpoint.specs.declared.State.TheVariants.{TerminateMore}
 use Rattle.endpoint.specs.declared.Timestamps.{Timestamps}
-use Rattle.endpoint.specs.declared.Pending.{Pending}
-use Rattle.endpoint.specs.declared.Pending.TheVariants.{Nothing, Asked}
 use Rattle.endpoint.specs.declared.Queue.{Queue}
 use Rattle.endpoint.specs.declared.Station.{Station}
 use Rattle.endpoint.specs.Endpoint.{Endpoint, Words}
@@ -60,7 +56,7 @@ use Rattle.link.proofs.Codes.{go_due, go_baseline, due_not_refresh, setup_not_re
 use Rattle.link.proofs.Codes.{pending_setup, busy_due, command_due}
 
 -- nothing is pending and something is
-nothing_asked : {A : Type 0} (p : Pending) (s : ℕ) → p ≡ Nothing → p ≡ Asked s → A
+nothing_asked : {A : Type 0} (p : Option ℕ) (s : ℕ) → p ≡ None → p ≡ Some s → A
 nothing_asked p s h k = let z : ◌≡◌ {A = ℕ} 0 1 = cc in absurd (omega arith)
 
 module _ {shift : ℕ} {calls : List Reading} {sm ss : Settings} {loads : ℕ} {given : List Grant} {l : List Sent}
@@ -104,7 +100,7 @@ module _ {shift : ℕ} {calls : List Reading} {sm ss : Settings} {loads : ℕ} {
   -- one that waits for nothing
   idle : (e : Endpoint) (M : Master) → numbered (session_of e) ≡ M.session → top_of e.timestamps.sent ≡ M.next_out
       → top_of e.timestamps.accepted ≡ M.next_in → tm ≡ M.held → is_state e.state Refresh ≡ false
-      → (is_setup e.state ≡ true → e.setup.pending ≡ Nothing) → is_state e.state RefreshPending ≡ false
+      → (is_setup e.state ≡ true → e.setup.pending ≡ None) → is_state e.state RefreshPending ≡ false
       → RelM e tm M
   idle e M m o i h r n k = record {
     session = m;
@@ -120,7 +116,7 @@ module _ {shift : ℕ} {calls : List Reading} {sm ss : Settings} {loads : ℕ} {
   rest : (e : Endpoint) → e.settings ≡ sm → numbered (session_of e) ≡ numbered (session_of em)
       → top_of e.timestamps.sent ≡ top_of em.timestamps.sent
       → top_of e.timestamps.accepted ≡ top_of em.timestamps.accepted → is_state e.state Refresh ≡ false
-      → (is_setup e.state ≡ true → e.setup.pending ≡ Nothing) → is_state e.state RefreshPending ≡ false
+      → (is_setup e.state ≡ true → e.setup.pending ≡ None) → is_state e.state RefreshPending ≡ false
       → AtM l e tm
   rest e s m o i r n k =
       let q = L.rel_m in
@@ -185,11 +181,11 @@ module _ {shift : ℕ} {calls : List Reading} {sm ss : Settings} {loads : ℕ} {
     }
 
     -- a measurement ends: none is under way
-    closed_m : AtM l (with_pending Nothing (with_answered false em)) tm
+    closed_m : AtM l (with_pending None (with_answered false em)) tm
     closed_m =
         let q = L.rel_m in
         let v = q.live r in
-        let o = with_pending Nothing (with_answered false em) in
+        let o = with_pending None (with_answered false em) in
         let M = phased_m L.master L.master.phase none_m in
         become o {M = M} L.set_m
         (still_live o M refl q.session q.next_out q.next_in q.held
@@ -197,13 +193,13 @@ module _ {shift : ℕ} {calls : List Reading} {sm ss : Settings} {loads : ℕ} {
           value = v.value;
           phase = v.phase;
           holds = v.holds;
-          asks = λ a s y. nothing_asked Nothing s refl y;
+          asks = λ a s y. nothing_asked None s refl y;
           closes = λ a. absurd (false≢true a);
         }))
         (m_ends L.inv)
 
   -- the mark of a frame that is written, of whatever session
-  abbrev written : ℕ → ℕ → List ℕ → Subconnection → Mark
+  abbrev written : ℕ → ℕ → List ℕ → Option ℕ → Mark
   written code baseline body n = frame_m TM L.slave code t baseline body (numbered n)
 
   ep : loads ≡ L.slave.epoch
@@ -218,7 +214,7 @@ module _ {shift : ℕ} {calls : List Reading} {sm ss : Settings} {loads : ℕ} {
       omega arith
 
   -- the endpoint is then another
-  wrote : (e : Endpoint) (w : Sent) (code baseline : ℕ) (body : List ℕ) (n : Subconnection) (M : Master)
+  wrote : (e : Endpoint) (w : Sent) (code baseline : ℕ) (body : List ℕ) (n : Option ℕ) (M : Master)
       → e.settings ≡ sm → mark_of w ≡ written code baseline body n → Honest sm w
       → Inv TM TS (t + shift) given (snoc (marks l) (written code baseline body n)) M L.slave → RelM e tm M
       → AtM (l ++ (w ∷ [])) e tm
@@ -247,7 +243,7 @@ module _ {shift : ℕ} {calls : List Reading} {sm ss : Settings} {loads : ℕ} {
       loads = loads;
       fields = request_fields em t;
       body = due_data em;
-      lent = some value;
+      lent = Some value;
     }
 
     abbrev code : ℕ
@@ -256,14 +252,14 @@ module _ {shift : ℕ} {calls : List Reading} {sm ss : Settings} {loads : ℕ} {
     abbrev baseline : ℕ
     baseline = baseline_of (request_due em) t em.setup.measured
 
-    abbrev session : Subconnection
+    abbrev session : Option ℕ
     session = session_with em (request_due em)
 
     asked_mark : mark_of asking ≡ written code baseline (due_data em) session
     asked_mark = λ i. mark 0 code (time i) baseline (t + shift) (due_data em) (numbered session) (ep i)
 
     -- an S-Connect request carries none
-    asked_session : (b : Bool) → narrowed (cond b Absent (session_of em)) ≡ cond b Absent (session_of em)
+    asked_session : (b : Bool) → narrowed (cond b None (session_of em)) ≡ cond b None (session_of em)
     asked_session true = refl
     asked_session false = narrowed_again em.session
 
@@ -304,7 +300,7 @@ module _ {shift : ℕ} {calls : List Reading} {sm ss : Settings} {loads : ℕ} {
           live = λ h. absurd (true≢false (sym h ∙ n));
           pend = λ h s e. let z : s ≡ t = (let y : time_of em t ≡ s = cc in sym y ∙ time) in record
               { since = z; rests = refl; measuring = ap asked (sym z) };
-          ready = λ h e. nothing_asked (Asked (time_of em t)) (time_of em t) e refl;
+          ready = λ h e. nothing_asked (Some (time_of em t)) (time_of em t) e refl;
         })
 
   -- ---- in Refresh
@@ -317,7 +313,7 @@ module _ {shift : ℕ} {calls : List Reading} {sm ss : Settings} {loads : ℕ} {
       loads = loads;
       fields = refresh_fields em t;
       body = value;
-      lent = some value;
+      lent = Some value;
     }
 
     refresh_mark : mark_of refreshing ≡ written 255 0 value (session_of em)
@@ -350,7 +346,7 @@ module _ {shift : ℕ} {calls : List Reading} {sm ss : Settings} {loads : ℕ} {
       loads = loads;
       fields = measurement_fields em k t;
       body = setup_data em.settings k;
-      lent = some value;
+      lent = Some value;
     }
 
     measuring_mark : (k : Command) → mark_of (measuring k)
@@ -398,7 +394,7 @@ module _ {shift : ℕ} {calls : List Reading} {sm ss : Settings} {loads : ℕ} {
         let v = q.live d.refresh in
         let M = wrote_m L.master t L.master.phase none_m in
         let m2 = em.setup.measured in
-        let last : last_step em.setup.pending m2 ≡ m2 = ap (λ (p : Pending). last_step p m2) w.idle in
+        let last : last_step em.setup.pending m2 ≡ m2 = ap (λ (p : Option ℕ). last_step p m2) w.idle in
         let u = go_timer em t w.due in
         let r = few in
         let b : (t - m2) % 65536 ≡ t - m2 = omega arith in
@@ -415,7 +411,7 @@ module _ {shift : ℕ} {calls : List Reading} {sm ss : Settings} {loads : ℕ} {
           phase = v.phase;
           holds = v.holds;
           asks = λ y. absurd (true≢false (sym w.answered ∙ y));
-          closes = λ y e. nothing_asked (Asked (time_of em t)) (time_of em t) e refl;
+          closes = λ y e. nothing_asked (Some (time_of em t)) (time_of em t) e refl;
         }))
 
     pub measurement_sent_m : Measured (refresh_due em t)
@@ -432,7 +428,7 @@ module _ {shift : ℕ} {calls : List Reading} {sm ss : Settings} {loads : ℕ} {
       loads = loads;
       fields = disconnect_fields em t;
       body = setup_data em.settings K.Disconnect;
-      lent = none;
+      lent = None;
     }
 
     abbrev zero_word : List ℕ
@@ -498,7 +494,7 @@ module _ {shift : ℕ} {calls : List Reading} {sm ss : Settings} {loads : ℕ} {
 
         keeps_session : (s : State) → em.state ≡ s → is (request_of s) K.Connect ≡ false
             → numbered (session_of (confirmed_of em t f)) ≡ numbered (session_of em)
-        keeps_session s e h = ap (λ (n : Subconnection). numbered (narrowed n))
+        keeps_session s e h = ap (λ (n : Option ℕ). numbered (narrowed n))
             (session_by_law s e ∙ ap (λ (b : Bool). cond b f.subconnection em.session) h)
 
         before : (s : State) → em.state ≡ s → is (request_of s) K.Connect ≡ false
@@ -519,7 +515,7 @@ module _ {shift : ℕ} {calls : List Reading} {sm ss : Settings} {loads : ℕ} {
             (L.honest k g.found.there).session in
             become (confirmed_of em t f) L.set_m
             (idle (confirmed_of em t f) (connected_m L.master (at (marks l) k))
-            (ap (λ (n : Subconnection). numbered (narrowed n)) (session_by_law Starting e) ∙ ap numbered own
+            (ap (λ (n : Option ℕ). numbered (narrowed n)) (session_by_law Starting e) ∙ ap numbered own
             ∙ sym (marked_session g))
             q.next_out q.next_in q.held (ap (λ (y : State). is_state y Refresh) (leads_to Starting e))
             (λ z. refl) (ap (λ (y : State). is_state y RefreshPending) (leads_to Starting e)))
@@ -546,7 +542,7 @@ module _ {shift : ℕ} {calls : List Reading} {sm ss : Settings} {loads : ℕ} {
               next_in = q.next_in;
               held = q.held;
               live = λ z. absurd (false≢true (sym (ap (λ (y : State). is_state y Refresh) s2) ∙ z));
-              pend = λ z y o. nothing_asked Nothing y refl o;
+              pend = λ z y o. nothing_asked None y refl o;
               ready = λ z y. record { measuring = ap got (sym m2); since = sym m2 };
             })
             (m_got L.inv t f.timestamp k a.measuring (omega arith) (omega arith) (in_log g) marked_reply
@@ -560,23 +556,23 @@ module _ {shift : ℕ} {calls : List Reading} {sm ss : Settings} {loads : ℕ} {
             let s2 : (confirmed_of em t f).state ≡ Refresh = leads_to RefreshPending e in
             let entered : (confirmed_of em t f).measurement.answered ≡ false =
             ap (λ (y : Command). (measurement_by y t em.measurement).answered) (next_due ∙ ap request_of e) in
-            become (confirmed_of em t f) {M = phased_m L.master (live_m t 0 none) none_m} L.set_m
+            become (confirmed_of em t f) {M = phased_m L.master (live_m t 0 None) none_m} L.set_m
             (record {
               session = keeps_session RefreshPending e refl ∙ q.session;
               next_out = q.next_out;
               next_in = q.next_in;
               held = q.held;
               live = λ z. record {
-                value = none;
+                value = None;
                 phase = refl;
                 holds = refl;
-                asks = λ a y o. nothing_asked Nothing y refl o;
+                asks = λ a y o. nothing_asked None y refl o;
                 closes = λ a. absurd (false≢true (sym entered ∙ a));
               };
-              pend = λ z y o. nothing_asked Nothing y refl o;
+              pend = λ z y o. nothing_asked None y refl o;
               ready = λ z y. absurd (false≢true (sym (ap (λ (y : State). is_state y RefreshPending) s2) ∙ z));
             })
-            (m_phase L.inv (live_m t 0 none) none_m (omega arith, tt) tt)
+            (m_phase L.inv (live_m t 0 None) none_m (omega arith, tt) tt)
 
         confirmed : (s : State) → em.state ≡ s → is_setup s ≡ true
             → AtM l (confirmed_of em t f) tm
@@ -623,15 +619,15 @@ module _ {shift : ℕ} {calls : List Reading} {sm ss : Settings} {loads : ℕ} {
     module _ (r : is_state em.state Refresh ≡ true) (d : MeasurementHeard em t f body) where
       abbrev Heard' : Command → Type 0
       Heard' k =
-          AtM l (cond (is k K.RefreshMo) (with_pending Nothing (with_measured t (with_answered true em)))
-          (with_pending Nothing (with_answered false em))) tm
+          AtM l (cond (is k K.RefreshMo) (with_pending None (with_measured t (with_answered true em)))
+          (with_pending None (with_answered false em))) tm
 
       -- m2, and S-RefreshGO is due
       mo_heard : em.measurement.answered ≡ false → f.command ≡ K.RefreshMo → Heard' K.RefreshMo
       mo_heard a e =
           let q = L.rel_m in
           let v = q.live r in
-          let o = with_pending Nothing (with_measured t (with_answered true em)) in
+          let o = with_pending None (with_measured t (with_answered true em)) in
           let M = phased_m L.master L.master.phase (got t) in
           let st = f.timestamp in
           let p = d.pending in
@@ -737,8 +733,8 @@ module _ {shift : ℕ} {calls : List Reading} {sm ss : Settings} {loads : ℕ} {
               next_in = ap suc (sym (marked_stamp g));
               held = refl;
               live = λ z. record {
-                value = some body;
-                phase = λ j. live_m t (counted_age (sym reckoned j)) (some (b j));
+                value = Some body;
+                phase = λ j. live_m t (counted_age (sym reckoned j)) (Some (b j));
                 holds = (refl, refl, d.width);
                 asks = v.asks;
                 closes = v.closes;

@@ -1,8 +1,9 @@
 -- Each call at the slave keeps the relation to the invariant.
 use mathlib.Core.Path.{◌≡◌, refl, sym, ap, subst, ◌∙◌}
+use Rattle.std.specs.Prelude.{None}
+use Rattle.std.specs.Prelude.{Option, Some}
 use mathlib.Core.Bool.{Bool, true, false, ◌||◌, not, cond, true≢false, false≢true}
 use mathlib.Core.List.{List, [], ◌∷◌, ◌++◌}
-use mathlib.Core.Option.{some, none}
 use Prim.Native.Nat.{ℕ, suc, ◌+◌, ◌%◌, ◌≤◌, ◌<◌}
 use native.Mathlib.Nat.{mod-eq_of_lt}
 use native.Mathlib.Omega.{arith}
@@ -11,7 +12,6 @@ use borrow.Author.Tests.{eqb-true}
 use Rattle.words.specs.Words.{word_at}
 use Rattle.frame.specs.declared.Command.{Command}
 use Rattle.frame.specs.declared.Command.TheVariants as K
-use Rattle.frame.specs.declared.Subconnection.TheVariants.{Number}
 use Rattle.frame.specs.declared.Fields.{Fields}
 use Rattle.frame.specs.Control.{is, is_same, code_of, waits_for_station, may_be_busy, narrowed}
 use mathlib.Mathlib.Data.Bool.Basic.{and_elim_right as and_right}
@@ -23,7 +23,6 @@ use Rattle.endpoint.specs.declared.Queue.{Queue}
 use Rattle.endpoint.specs.declared.Measurement.{Measurement}
 use Rattle.endpoint.specs.declared.Station.{Station}
 use Rattle.endpoint.specs.Endpoint.{Endpoint, Words}
-use Rattle.endpoint.specs.declared.Next.{Next}
 use Rattle.endpoint.specs.Table.{is_state, is_setup, is_no, next_of, state_to}
 use Rattle.endpoint.specs.Due.{is_held_back}
 use Rattle.endpoint.specs.Time.{span, minus, is_above, is_expired, ended_of, counted_age, held_age, offset_from, offset_life}
@@ -96,7 +95,7 @@ module _ {shift : ℕ} {calls : List Reading} {sm ss : Settings} {loads : ℕ} {
   }
 
   -- one that waits for nothing
-  idle : (e : Endpoint) (S : Slave) → session_of e ≡ Number S.number → loads ≡ S.epoch
+  idle : (e : Endpoint) (S : Slave) → session_of e ≡ Some S.number → loads ≡ S.epoch
       → top_of e.timestamps.sent ≡ S.next_out → top_of e.timestamps.accepted ≡ S.next_in → ts ≡ S.held
       → is_established e.state ≡ false → RelS sm loads e ts S
   idle e S m k o i h n =
@@ -164,7 +163,7 @@ module _ {shift : ℕ} {calls : List Reading} {sm ss : Settings} {loads : ℕ} {
   -- in Refresh: what a step leaves that changes at most the measurement and the offset
   module _ (r : is_state es.state Refresh ≡ true) where
     still_live : (e : Endpoint) (S : Slave) → e.settings ≡ es.settings → e.state ≡ es.state
-        → session_of e ≡ Number S.number → loads ≡ S.epoch → top_of e.timestamps.sent ≡ S.next_out
+        → session_of e ≡ Some S.number → loads ≡ S.epoch → top_of e.timestamps.sent ≡ S.next_out
         → top_of e.timestamps.accepted ≡ S.next_in → ts ≡ S.held → LiveAtS e S → RelS sm loads e ts S
     still_live e S z s n k o i h v = record {
       number = n;
@@ -215,7 +214,7 @@ module _ {shift : ℕ} {calls : List Reading} {sm ss : Settings} {loads : ℕ} {
       loads = loads;
       fields = refresh_fields es t;
       body = value;
-      lent = some value;
+      lent = Some value;
     }
 
     refresh_mark : mark_of refreshing ≡ refresh_s L.slave ((t + es.setup.offset) % span) now value
@@ -291,7 +290,7 @@ module _ {shift : ℕ} {calls : List Reading} {sm ss : Settings} {loads : ℕ} {
         loads = loads;
         fields = reply_fields es f busy error;
         body = said;
-        lent = none;
+        lent = None;
       }
 
       module _ (busy error : Bool) (said : List ℕ) (may : busy ≡ true → may_be_busy f.command ≡ true)
@@ -374,7 +373,7 @@ module _ {shift : ℕ} {calls : List Reading} {sm ss : Settings} {loads : ℕ} {
 
         to : (q : Command) → f.command ≡ q → (advanced_of es t f).state ≡ target_of q
         to q e =
-            ap (λ (y : Next). state_to y es.state) (leads f.command es.state d.turn)
+            ap (λ (y : Option State). state_to y es.state) (leads f.command es.state d.turn)
             ∙ ap target_of e
 
         -- S-InitConfirmNetPrm has this end's own settings, and the master's
@@ -432,7 +431,7 @@ module _ {shift : ℕ} {calls : List Reading} {sm ss : Settings} {loads : ℕ} {
             let m = ap (λ (y : Command). measurement_by y es.setup.measured es.measurement) e in
             replied busy false said may n (advanced_of es t f)
             (live_s (offset_from (at (marks l) k).stamp (at (marks l) k).baseline es.setup.measured)
-            es.setup.measured t 0 none) none_s L.set_s
+            es.setup.measured t 0 None) none_s L.set_s
             (record {
               number = q.number;
               epoch = q.epoch;
@@ -440,8 +439,8 @@ module _ {shift : ℕ} {calls : List Reading} {sm ss : Settings} {loads : ℕ} {
               next_in = ap suc (sym (marked_stamp g));
               held = q.held;
               live = λ z. record {
-                value = none;
-                phase = λ j. live_s (offset e j) (sym m j).reference t 0 none;
+                value = None;
+                phase = λ j. live_s (offset e j) (sym m j).reference t 0 None;
                 holds = refl;
                 opens = λ a. absurd (false≢true (sym (ap (λ (y : Measurement). y.answered) m) ∙ a));
               };
@@ -600,8 +599,8 @@ module _ {shift : ℕ} {calls : List Reading} {sm ss : Settings} {loads : ℕ} {
               next_in = ap suc (sym (marked_stamp g));
               held = refl;
               live = λ z. record {
-                value = some body;
-                phase = λ j. live_s es.setup.offset s2 t (counted_age (sym reckoned j)) (some (b j));
+                value = Some body;
+                phase = λ j. live_s es.setup.offset s2 t (counted_age (sym reckoned j)) (Some (b j));
                 holds = (refl, refl, d.width);
                 opens = v.opens;
               };

@@ -1,7 +1,7 @@
 -- What the invariant says of a value shown, of its age, and of a frame that comes in time.
 use mathlib.Core.Path.{◌≡◌, subst}
+use Rattle.std.specs.Prelude.{None, Option, Some}
 use mathlib.Core.List.{List}
-use mathlib.Core.Option.{Option, some, none}
 use mathlib.Core.Logic.{◌⊎◌, inl, inr, ⊎_elim}
 use Prim.Native.Nat.{ℕ, zero, suc, ◌+◌, ◌-◌, ◌%◌, ◌^◌, ◌≤◌, ◌<◌}
 use native.Mathlib.Omega.{arith}
@@ -27,9 +27,9 @@ aged x = let y = x.low in let z = x.most in omega arith
 -- a value held for n ticks more
 held_on : (l : List Mark) (h m m' f n : ℕ) (a b : Margin) (v : Option (List ℕ)) → m' + a.low ≤ m + n + b.low
     → m + n + a.high ≤ m' + b.high → a.most + n ≤ b.most → ValueOf l h m f a v → ValueOf l h m' (f + n) b v
-held_on l h m m' f n a b none x y z w = w
-held_on l zero m m' f n a b (some v) x y z w = w
-held_on l (suc k) m m' f n a b (some v) x y z w = record {
+held_on l h m m' f n a b None x y z w = w
+held_on l zero m m' f n a b (Some v) x y z w = w
+held_on l (suc k) m m' f n a b (Some v) x y z w = record {
   body = w.body;
   low = let u = w.low in omega arith;
   high = let u = w.high in omega arith;

@@ -1,5 +1,6 @@
 -- Commands by their codes and states by the request due in them.
 use mathlib.Core.Path.{◌≡◌, refl}
+use Rattle.std.specs.Prelude.{Some}
 use mathlib.Core.Bool.{Bool, true, false, ◌&&◌, ◌||◌, cond, true≢false, false≢true}
 use Prim.Native.Nat.{ℕ, ◌-◌, ◌%◌, ◌≤◌}
 use native.Mathlib.Omega.{arith}
@@ -12,7 +13,6 @@ use Rattle.endpoint.specs.declared.State.{State}
 use Rattle.endpoint.specs.declared.State.TheVariants.{Close, Starting, EstablishPending, Establish, ParamVerify}
 use Rattle.endpoint.specs.declared.State.TheVariants.{FuncRunning, RefreshPending, Refresh, Terminate}
 use Rattle.endpoint.specs.declared.State.TheVariants.{TerminateMore}
-use Rattle.endpoint.specs.declared.Next.TheVariants.{To}
 use Rattle.endpoint.specs.declared.Queue.{Queue}
 use Rattle.endpoint.specs.declared.Queue.TheVariants as Q
 use Rattle.endpoint.specs.Table.{by_state, is_state, is_setup, is_no, next_of, request_of}
@@ -120,9 +120,9 @@ target_of K.Refresh = Refresh
 target_of K.Disconnect = Terminate
 
 abbrev Leads : Command → State → Type 0
-Leads k s = is_no (next_of k s) ≡ false → next_of k s ≡ To (target_of k)
+Leads k s = is_no (next_of k s) ≡ false → next_of k s ≡ Some (target_of k)
 
-pub leads : (k : Command) (s : State) → is_no (next_of k s) ≡ false → next_of k s ≡ To (target_of k)
+pub leads : (k : Command) (s : State) → is_no (next_of k s) ≡ false → next_of k s ≡ Some (target_of k)
 leads K.Connect = each (Leads K.Connect) (λ h. refl) (λ h. refl) (λ h. refl) no no no no no no no
 leads K.ConfirmNetwork = each (Leads K.ConfirmNetwork) no no (λ h. refl) no no no no no no no
 leads K.VerifyStation = each (Leads K.VerifyStation) no no no (λ h. refl) no no no no no no

@@ -1,5 +1,6 @@
 -- Any call at the master, and any at the slave, keeps the relation to the invariant; what an end took never falls.
 use mathlib.Core.Path.{◌≡◌, refl, sym, ap, subst, ◌∙◌}
+use Rattle.std.specs.Prelude.{Err, Ok}
 use mathlib.Core.Bool.{Bool, true, false, not, cond, beq, true≢false}
 use mathlib.Core.List.{List, [], ◌++◌, append-nil}
 use mathlib.Core.Logic.{⊎_elim}
@@ -10,8 +11,8 @@ use Rattle.frame.specs.declared.Fields.{Fields}
 use Rattle.frame.specs.Control.{is}
 use Rattle.endpoint.specs.declared.Settings.{Settings}
 use Rattle.endpoint.specs.Endpoint.{Endpoint}
-use Rattle.endpoint.specs.declared.Answer.{Answer}
-use Rattle.endpoint.specs.declared.Answer.TheVariants.{Done, Dropped, Ended}
+use Rattle.endpoint.specs.Answers.{Answer}
+use Rattle.endpoint.specs.declared.Refusal.TheVariants.{Dropped, Ended}
 use Rattle.endpoint.specs.Answers.{first_of, is_dropped}
 use Rattle.endpoint.specs.declared.State.TheVariants.{Refresh}
 use Rattle.endpoint.specs.Table.{is_state}
@@ -70,11 +71,11 @@ module _ {shift : ℕ} {calls : List Reading} {sm ss : Settings} {loads : ℕ} {
     unlogged_m e k = subst (λ (y : List Sent). AtM given y e tm) (sym (append-nil l)) k
 
     result_m : (f : Fields) (body : List ℕ) (result : Bool) (e : Endpoint) → AtM given l e tm
-        → KeepsM (deliver f body) (outcome Done e (cond result (W.value body) nothing))
+        → KeepsM (deliver f body) (outcome (Ok tt) e (cond result (W.value body) nothing))
     result_m f body true e k = unlogged_m e k
     result_m f body false e k = unlogged_m e k
 
-    sent_m : is_expired em t ≡ false → (value : List ℕ) → (send_of em t value).answer ≡ Done
+    sent_m : is_expired em t ≡ false → (value : List ℕ) → (send_of em t value).answer ≡ Ok tt
         → KeepsM (send value) (send_of em t value)
     sent_m x value h =
         ⊎_elim (λ (d : RefreshSent em t value). subst (KeepsM (send value)) (sym d.comes)
@@ -85,11 +86,11 @@ module _ {shift : ℕ} {calls : List Reading} {sm ss : Settings} {loads : ℕ} {
         (M.requested_m t lim L value d x)))
         (send_done em t value h)
 
-    stopped_m : (stop_of em t).answer ≡ Done → KeepsM (act stop) (stop_of em t)
+    stopped_m : (stop_of em t).answer ≡ Ok tt → KeepsM (act stop) (stop_of em t)
     stopped_m h =
         let d = stop_done em t h in
         subst (KeepsM (act stop)) (sym
-        (d.comes ∙ ap (outcome Done (stopped_of em t)) (cond_false em.settings.slave _ _ role)))
+        (d.comes ∙ ap (outcome (Ok tt) (stopped_of em t)) (cond_false em.settings.slave _ _ role)))
         (M.stopped_m t lim L d)
 
     other_m : is_expired em t ≡ false → (f : Fields) (body : List ℕ) (k : ℕ) → Handed given f body l k
@@ -102,7 +103,7 @@ module _ {shift : ℕ} {calls : List Reading} {sm ss : Settings} {loads : ℕ} {
         slaves = other_bit em f h ∙ ap not role
 
         go : (a : Answer) → first_of (reply_faults em t f body) ≡ a → KeepsM (deliver f body) (take_reply em t f body)
-        go Done e =
+        go (Ok _) e =
             bcase (is_state em.state Refresh)
             (λ r.
             let d = measurement_heard em t f body r e in
@@ -112,8 +113,8 @@ module _ {shift : ℕ} {calls : List Reading} {sm ss : Settings} {loads : ℕ} {
             let d = reply_done em t f body r e in
             subst (KeepsM (deliver f body)) (sym d.comes)
             (result_m f body (is_result f) _ (M.heard_m t lim L f body k g slaves d x)))
-        go (Dropped r) e = rw e (unlogged_m em L)
-        go (Ended r) e = rw e (unlogged_m (ended_of em) (M.ended_m t lim L))
+        go (Err (Dropped r)) e = rw e (unlogged_m em L)
+        go (Err (Ended r)) e = rw e (unlogged_m (ended_of em) (M.ended_m t lim L))
 
     pub at_master_law : (call : Call) → may_deliver given l call ≡ true
         → let o = call_of em t call in
@@ -149,7 +150,7 @@ module _ {shift : ℕ} {calls : List Reading} {sm ss : Settings} {loads : ℕ} {
     unlogged_s : (e : Endpoint) → AtS given l e ts → AtS given (l ++ []) e ts
     unlogged_s e k = subst (λ (y : List Sent). AtS given y e ts) (sym (append-nil l)) k
 
-    sent_s : is_expired es t ≡ false → (value : List ℕ) → (send_of es t value).answer ≡ Done
+    sent_s : is_expired es t ≡ false → (value : List ℕ) → (send_of es t value).answer ≡ Ok tt
         → KeepsS (send value) (send_of es t value)
     sent_s x value h =
         ⊎_elim (λ (d : RefreshSent es t value). subst (KeepsS (send value)) (sym d.comes)
@@ -158,11 +159,11 @@ module _ {shift : ℕ} {calls : List Reading} {sm ss : Settings} {loads : ℕ} {
         (λ (d : RequestSent es t value). absurd (true≢false (sym slave_role ∙ d.master))))
         (send_done es t value h)
 
-    stopped_s : (stop_of es t).answer ≡ Done → KeepsS (act stop) (stop_of es t)
+    stopped_s : (stop_of es t).answer ≡ Ok tt → KeepsS (act stop) (stop_of es t)
     stopped_s h =
         let d = stop_done es t h in
         subst (KeepsS (act stop)) (sym
-        (d.comes ∙ ap (outcome Done (stopped_of es t)) (cond_true es.settings.slave _ _ slave_role)))
+        (d.comes ∙ ap (outcome (Ok tt) (stopped_of es t)) (cond_true es.settings.slave _ _ slave_role)))
         (unlogged_s (stopped_of es t) (S.stopped_s t lim ti L))
 
     -- a request that was not dropped has a timestamp above the last accepted
@@ -190,15 +191,15 @@ module _ {shift : ℕ} {calls : List Reading} {sm ss : Settings} {loads : ℕ} {
 
         leaves : (a : Answer) → first_of (request_faults es t f body) ≡ a → is f.command K.Disconnect ≡ true
             → KeepsS (deliver f body) (take_request es t f body)
-        leaves Done e q = rw (e, q)
-            (unlogged_s (ended_by es f.timestamp) (S.heard_s_law t lim ti L f body k g masters (ends Done e refl)))
-        leaves (Dropped r) e q = rw e (unlogged_s es L)
-        leaves (Ended r) e q = rw (e, q)
+        leaves (Ok _) e q = rw (e, q)
+            (unlogged_s (ended_by es f.timestamp) (S.heard_s_law t lim ti L f body k g masters (ends (Ok tt) e refl)))
+        leaves (Err (Dropped r)) e q = rw e (unlogged_s es L)
+        leaves (Err (Ended r)) e q = rw (e, q)
             (unlogged_s (ended_by es f.timestamp)
-            (S.heard_s_law t lim ti L f body k g masters (ends (Ended r) e refl)))
+            (S.heard_s_law t lim ti L f body k g masters (ends (Err (Ended r)) e refl)))
 
         -- done, in Refresh and before
-        answered : first_of (request_faults es t f body) ≡ Done → is f.command K.Disconnect ≡ false
+        answered : first_of (request_faults es t f body) ≡ Ok tt → is f.command K.Disconnect ≡ false
             → is_state es.state Refresh ≡ false → KeepsS (deliver f body) (take_request es t f body)
         answered e q r =
             bcase (is f.command K.WriteErrorInfo)
@@ -213,16 +214,16 @@ module _ {shift : ℕ} {calls : List Reading} {sm ss : Settings} {loads : ℕ} {
 
         replies : (a : Answer) → first_of (request_faults es t f body) ≡ a → is f.command K.Disconnect ≡ false
             → KeepsS (deliver f body) (take_request es t f body)
-        replies Done e q =
+        replies (Ok _) e q =
             bcase (is_state es.state Refresh)
             (λ r.
             let d = synchronization_done es t f body r n q e in
             subst (KeepsS (deliver f body)) (sym d.comes)
             (S.synchronized_s t lim ti L f body k g masters d.above r d n))
             (answered e q)
-        replies (Dropped r) e q = rw e (unlogged_s es L)
-        replies (Ended r) e q = rw (e, q)
-            (S.unequal_s t lim ti L f body k g masters (ends (Ended r) e refl) n)
+        replies (Err (Dropped r)) e q = rw e (unlogged_s es L)
+        replies (Err (Ended r)) e q = rw (e, q)
+            (S.unequal_s t lim ti L f body k g masters (ends (Err (Ended r)) e refl) n)
 
     pub at_slave : (call : Call) → may_deliver given l call ≡ true
         → let o = call_of es t call in

@@ -1,6 +1,7 @@
 -- The log of entries and its marks: one more at the end; the last place of a frame; what is known of a frame that is
 -- handed over.
 use mathlib.Core.Path.{◌≡◌, refl, sym, ap, subst, ◌∙◌}
+use Rattle.std.specs.Prelude.{None, Option, Some, ℕ}
 use mathlib.Core.Bool.{Bool, true, false, ◌&&◌, ◌||◌, not, cond, beq, false≢true}
 use mathlib.Core.Logic.{⊎_elim}
 use mathlib.Core.List.{List, [], ◌∷◌, ◌++◌}
@@ -14,8 +15,6 @@ use lib.ListN.{length, length-append, get_or-append}
 use lib.Seq.{get_or-append_seam}
 use borrow.Author.Tests.{eqb-true, eq-eqb, leb-true}
 use Rattle.frame.specs.declared.Command.{Command}
-use Rattle.frame.specs.declared.Subconnection.{Subconnection}
-use Rattle.frame.specs.declared.Subconnection.TheVariants.{Absent, Number}
 use Rattle.frame.specs.declared.Fields.{Fields}
 use Rattle.frame.specs.Control.{code_of, command_of, is, is_same}
 use Rattle.words.specs.Bytes.{same}
@@ -77,14 +76,14 @@ beq_eq false false h = refl
 pub is_eq : (a b : Command) → is a b ≡ true → a ≡ b
 is_eq a b h = sym (command_of_code a) ∙ ap command_of (eqb-true (code_of a) (code_of b) h) ∙ command_of_code b
 
-pub session_eq : (a b : Subconnection) → is_same a b ≡ true → a ≡ b
-session_eq Absent Absent h = refl
-session_eq Absent (Number n) h = let z = eqb-true 0 (65536 + n) h in absurd (omega arith)
-session_eq (Number n) Absent h = let z = eqb-true (65536 + n) 0 h in absurd (omega arith)
-session_eq (Number n) (Number m) h =
+pub session_eq : (a b : Option ℕ) → is_same a b ≡ true → a ≡ b
+session_eq None None h = refl
+session_eq None (Some n) h = let z = eqb-true 0 (65536 + n) h in absurd (omega arith)
+session_eq (Some n) None h = let z = eqb-true (65536 + n) 0 h in absurd (omega arith)
+session_eq (Some n) (Some m) h =
     let z = eqb-true (65536 + n) (65536 + m) h in
     let y : n ≡ m = omega arith in
-    ap Number y
+    ap Some y
 
 pub fields_eq : (f g : Fields) → same_fields f g ≡ true → f ≡ g
 unfolding same_fields
@@ -167,18 +166,18 @@ found_at f body l k e = go (found_from f body l 0 0)
     go (here j z p) = let q : j ≡ k = omega arith in subst (FoundAt f body l) q p
 
 -- ---- a number that was given, and a frame that carries it: document 02's premise as it is computed
-within : (s : Subconnection) (n a b : ℕ) → (not (is_same s (Number n)) || leb a b) ≡ true → numbered s ≡ suc n → a ≤ b
-within Absent n a b h e = absurd (omega arith)
-within (Number m) n a b h e =
-    let q : is_same (Number m) (Number n) ≡ true = eq-eqb (65536 + m) (65536 + n) (omega arith) in
+within : (s : Option ℕ) (n a b : ℕ) → (not (is_same s (Some n)) || leb a b) ≡ true → numbered s ≡ suc n → a ≤ b
+within None n a b h e = absurd (omega arith)
+within (Some m) n a b h e =
+    let q : is_same (Some m) (Some n) ≡ true = eq-eqb (65536 + m) (65536 + n) (omega arith) in
     leb-true a b (rw q at h)
 
-travels_told : (g : List Grant) (s : Subconnection) (loads : ℕ) → may_travel g s loads ≡ true → (n e : ℕ) → Given g n e
+travels_told : (g : List Grant) (s : Option ℕ) (loads : ℕ) → may_travel g s loads ≡ true → (n e : ℕ) → Given g n e
     → numbered s ≡ suc n → e ≤ loads
 unfolding may_travel
 travels_told [] s loads h n e x q = absurd x
 travels_told (y ∷ g) s loads h n e x q =
-    let first = not (is_same s (Number y.number)) || leb y.loads loads in
+    let first = not (is_same s (Some y.number)) || leb y.loads loads in
     ⊎_elim
     (λ (z : (y.number ≡ n) × (y.loads ≡ e)).
     let a = z.0 in

@@ -2,6 +2,8 @@
 -- to be kept, of the numbers given, the log, the endpoint and the place last taken; the rest says that each of the
 -- endpoint's steps keeps it.
 use mathlib.Core.Path.{◌≡◌, refl, sym, ap, subst, ◌∙◌}
+use Rattle.std.specs.Prelude.{Err, Ok}
+use Rattle.std.specs.Prelude.{Option, ℕ}
 use mathlib.Core.Bool.{Bool, true, false, ◌&&◌, not, cond, beq}
 use mathlib.Core.List.{List, [], ◌++◌, append-nil}
 use Prim.Native.Nat.{ℕ, suc, ◌/◌, ◌≤◌}
@@ -10,7 +12,6 @@ use lib.ListN.{length}
 use borrow.Author.Tests.{not-true}
 use mathlib.Mathlib.Data.Bool.Basic.{and_elim_left as and_left}
 use Rattle.frame.specs.declared.Command.TheVariants as K'
-use Rattle.frame.specs.declared.Subconnection.{Subconnection}
 use Rattle.frame.specs.declared.Fields.{Fields}
 use Rattle.frame.specs.Control.{is}
 use Rattle.endpoint.specs.declared.State.TheVariants.{Close}
@@ -20,8 +21,8 @@ use Rattle.endpoint.specs.declared.Station.{Station}
 use Rattle.endpoint.specs.Endpoint.{Endpoint, Words, words_of}
 use Rattle.endpoint.specs.declared.Reason.{Reason}
 use Rattle.endpoint.specs.declared.Reason.TheVariants as R
-use Rattle.endpoint.specs.declared.Answer.{Answer}
-use Rattle.endpoint.specs.declared.Answer.TheVariants.{Done, Dropped, Ended}
+use Rattle.endpoint.specs.Answers.{Answer}
+use Rattle.endpoint.specs.declared.Refusal.TheVariants.{Dropped, Ended}
 use Rattle.endpoint.specs.Answers.{record_faults, first_of, is_done, is_dropped}
 use Rattle.endpoint.specs.Table.{is_state, is_terminated}
 use Rattle.endpoint.specs.Due.{may_queue, may_queue_read}
@@ -45,7 +46,7 @@ use Rattle.link.proofs.Relation.{told_of}
 use Rattle.link.proofs.Entries.{Handed, delivered as written-before}
 
 -- ---- a stop is done or dropped
-stop_cases : (P : Outcome → Type 0) (e : Endpoint) (t : ℕ) → ((stop_of e t).answer ≡ Done → P (stop_of e t))
+stop_cases : (P : Outcome → Type 0) (e : Endpoint) (t : ℕ) → ((stop_of e t).answer ≡ Ok tt → P (stop_of e t))
     → ((a : Answer) → P (dropped e a))
     → P (stop_of e t)
 stop_cases P e t p q =
@@ -54,16 +55,16 @@ stop_cases P e t p q =
     (λ h. p (ap (λ (o : Outcome). o.answer) (cond_false (is_dropped a) (dropped e a) _ h)))
 
 -- ---- an S-Refresh is taken, dropped, or ends the connection
-refresh_cases : (P : Outcome → Type 0) (e : Endpoint) (t : ℕ) (n : Subconnection) (stamp : ℕ) (body : List ℕ)
-    → ((take_refresh e t n stamp body).answer ≡ Done → P (outcome Done (refreshed_of e t stamp (padded_of body)) nothing))
-    → ((r : Reason) → P (outcome (Dropped r) e nothing)) → ((r : Reason) → P (outcome (Ended r) (ended_of e) nothing))
+refresh_cases : (P : Outcome → Type 0) (e : Endpoint) (t : ℕ) (n : Option ℕ) (stamp : ℕ) (body : List ℕ)
+    → ((take_refresh e t n stamp body).answer ≡ Ok tt → P (outcome (Ok tt) (refreshed_of e t stamp (padded_of body)) nothing))
+    → ((r : Reason) → P (outcome (Err (Dropped r)) e nothing)) → ((r : Reason) → P (outcome (Err (Ended r)) (ended_of e) nothing))
     → P (take_refresh e t n stamp body)
 refresh_cases P e t n stamp body p q r = go (first_of (refresh_faults e t n stamp (length body))) refl
   where
     go : (a : Answer) → first_of (refresh_faults e t n stamp (length body)) ≡ a → P (take_refresh e t n stamp body)
-    go Done h = rw h (p h)
-    go (Dropped x) h = rw h (q x)
-    go (Ended x) h = rw h (r x)
+    go (Ok _) h = rw h (p h)
+    go (Err (Dropped x)) h = rw h (q x)
+    go (Err (Ended x)) h = rw h (r x)
 
 and_false : (a b : Bool) → b ≡ false → (a && b) ≡ false
 and_false true b h = h
@@ -129,19 +130,19 @@ module _ (slave : Bool) (m t loads : ℕ) (given : List Grant) (l : List Sent) (
   not_taken f body o h k = rw h (k, omega arith)
 
   -- the clock step ended it
-  pub expired : (call : Call) → Kept call (outcome (Ended R.Expired) (ended_of e) nothing)
+  pub expired : (call : Call) → Kept call (outcome (Err (Ended R.Expired)) (ended_of e) nothing)
   unfolding Keeps Kept
   expired (act a) = (refused_act a (ended_of e) ended, omega arith)
   expired (send value) = (written_none given (ended_of e) ended, omega arith)
   expired (deliver f body) =
-      not_taken f body (outcome (Ended R.Expired) (ended_of e) nothing) refl (written_none given (ended_of e) ended)
+      not_taken f body (outcome (Err (Ended R.Expired)) (ended_of e) nothing) refl (written_none given (ended_of e) ended)
   expired show = (written_none given (ended_of e) ended, omega arith)
 
-  module _ (sent : (value : List ℕ) → (send_of e t value).answer ≡ Done → Keeps (send value) (send_of e t value))
-      (stopped : (stop_of e t).answer ≡ Done → Keeps (act stop) (stop_of e t))
+  module _ (sent : (value : List ℕ) → (send_of e t value).answer ≡ Ok tt → Keeps (send value) (send_of e t value))
+      (stopped : (stop_of e t).answer ≡ Ok tt → Keeps (act stop) (stop_of e t))
       (refreshed : (f : Fields) (body : List ℕ) (k : ℕ) → Handed given f body l k
       → beq f.application e.settings.slave ≡ false
-      → is f.command K'.Refresh ≡ true → (take_refresh e t f.subconnection f.timestamp body).answer ≡ Done
+      → is f.command K'.Refresh ≡ true → (take_refresh e t f.subconnection f.timestamp body).answer ≡ Ok tt
       → K given l (refreshed_of e t f.timestamp (padded_of body)) (suc k) × (took ≤ k))
       (other : (f : Fields) (body : List ℕ) (k : ℕ) → Handed given f body l k
       → beq f.application e.settings.slave ≡ false
@@ -153,7 +154,7 @@ module _ (slave : Bool) (m t loads : ℕ) (given : List Grant) (l : List Sent) (
         let quiet : GivesNone (deliver f body) = λ a. refl in
         bcase (beq f.application e.settings.slave)
         (λ h. subst (Kept (deliver f body)) (sym (deliver_echo e t f body h))
-        (not_taken f body (dropped e (Dropped R.Echo)) refl (silent (deliver f body) quiet (Dropped R.Echo) e base)))
+        (not_taken f body (dropped e (Err (Dropped R.Echo))) refl (silent (deliver f body) quiet (Err (Dropped R.Echo)) e base)))
         (λ h. bcase (is f.command K'.Refresh)
         (λ r. subst (Kept (deliver f body)) (sym (deliver_refresh e t f body h r))
         (refresh_cases (Kept (deliver f body)) e t f.subconnection f.timestamp body
@@ -167,17 +168,17 @@ module _ (slave : Bool) (m t loads : ℕ) (given : List Grant) (l : List Sent) (
               (sym (append-nil l)) z.0),
           omega arith,
         ))
-        (λ x. not_taken f body (outcome (Dropped x) e nothing) refl
-        (silent (deliver f body) quiet (Dropped x) e base))
-        (λ x. not_taken f body (outcome (Ended x) (ended_of e) nothing) refl
-        (silent (deliver f body) quiet (Ended x) (ended_of e) ended))))
+        (λ x. not_taken f body (outcome (Err (Dropped x)) e nothing) refl
+        (silent (deliver f body) quiet (Err (Dropped x)) e base))
+        (λ x. not_taken f body (outcome (Err (Ended x)) (ended_of e) nothing) refl
+        (silent (deliver f body) quiet (Err (Ended x)) (ended_of e) ended))))
         (λ r. not_taken f body (deliver_of e t f body)
         (and_false (is_done (deliver_of e t f body).answer) (is f.command K'.Refresh) r) (other f body k g h r)))
 
     -- its user tells it something, or is refused
     tells : (a : Act) → GivesNone (act a) → (b : Bool) (s : Station) (q : Queue) (w x : Words) (r : Answer)
-        → Keeps (act a) (cond b (outcome Done (told_of e s q w x) nothing) (dropped e r))
-    tells a n true s q w x r = silent (act a) n Done (told_of e s q w x) (told s q w x)
+        → Keeps (act a) (cond b (outcome (Ok tt) (told_of e s q w x) nothing) (dropped e r))
+    tells a n true s q w x r = silent (act a) n (Ok tt) (told_of e s q w x) (told s q w x)
     tells a n false s q w x r = silent (act a) n r e base
 
     -- and hands an error record over
@@ -193,7 +194,7 @@ module _ (slave : Bool) (m t loads : ℕ) (given : List Grant) (l : List Sent) (
     -- with a number, where it is done
     restarts : (number : ℕ) (b : Bool)
         → Keeps (act (restart number))
-        (cond b (outcome Done (restarted_of e number) nothing) (dropped e (Dropped R.Turn)))
+        (cond b (outcome (Ok tt) (restarted_of e number) nothing) (dropped e (Err (Dropped R.Turn))))
     unfolding Keeps
     restarts number true =
         subst (λ b. K (cond b (given_by loads (restart number)) [] ++ given) (l ++ []) (restarted_of e number) took)
@@ -204,32 +205,32 @@ module _ (slave : Bool) (m t loads : ℕ) (given : List Grant) (l : List Sent) (
     unfolding Keeps
     acts start =
         bcase (not e.settings.slave && is_state e.state Close)
-        (λ k. rw k (silent (act start) none Done (started_of e t) (started (not-true e.settings.slave
+        (λ k. rw k (silent (act start) none (Ok tt) (started_of e t) (started (not-true e.settings.slave
         (and_left (not e.settings.slave) (is_state e.state Close) k)))))
-        (λ k. rw k (silent (act start) none (Dropped R.Turn) e base))
+        (λ k. rw k (silent (act start) none (Err (Dropped R.Turn)) e base))
     acts stop = stop_cases (Keeps (act stop)) e t stopped (λ a. silent (act stop) none a e base)
     acts (restart number) = restarts number (is_terminated e.state)
     acts (set_not_ready b) =
         tells (set_not_ready b) none e.settings.slave (record { notready = b }) e.setup.queue e.words
-        e.errorinfo (Dropped R.Turn)
+        e.errorinfo (Err (Dropped R.Turn))
     acts (set_result body) =
         let a = first_of (hand_faults e.settings.slave (length body)) in
         tells (set_result body) none (is_done a) e.station e.setup.queue
         (words_of (length body / 4) (padded_of body)) e.errorinfo a
     acts clear_result =
         tells clear_result none e.settings.slave e.station e.setup.queue (words_of 0 e.words.bytes)
-        e.errorinfo (Dropped R.Turn)
+        e.errorinfo (Err (Dropped R.Turn))
     acts (set_record body) = records (set_record body) none e.settings.slave e.setup.queue body
     acts clear_record =
         tells clear_record none e.settings.slave e.station e.setup.queue e.words
-        (words_of 0 e.errorinfo.bytes) (Dropped R.Turn)
+        (words_of 0 e.errorinfo.bytes) (Err (Dropped R.Turn))
     acts (invoke word bytes) =
         let body = command_data word bytes in
         let a = first_of (hand_faults (may_queue e) (length body)) in
         tells (invoke word bytes) none (is_done a) e.station Q.InvokeFunc
         (words_of (length body / 4) (padded_of body)) e.errorinfo a
     acts read_error =
-        tells read_error none (may_queue_read e) e.station Q.ReadErrorInfo e.words e.errorinfo (Dropped R.Turn)
+        tells read_error none (may_queue_read e) e.station Q.ReadErrorInfo e.words e.errorinfo (Err (Dropped R.Turn))
     acts (write_error body) = records (write_error body) none (may_queue e) Q.WriteErrorInfo body
 
     -- every call but a deliver takes nothing
@@ -245,4 +246,4 @@ module _ (slave : Bool) (m t loads : ℕ) (given : List Grant) (l : List Sent) (
     acted (deliver f body) h =
         let d = written-before given f body l h in
         delivered f body d.place d.last d.handed
-    acted show h = (silent show (λ a. refl) Done e base, omega arith)
+    acted show h = (silent show (λ a. refl) (Ok tt) e base, omega arith)

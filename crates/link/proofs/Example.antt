@@ -4,13 +4,13 @@
 -- wrong interval at first, takes an old S-Connect request, starts again under another session number, is handed an old
 -- S-Refresh, and both values are shown once more. All of it is computed.
 use mathlib.Core.Path.{◌≡◌, refl, ap}
+use Rattle.std.specs.Prelude.{None, Some}
 use mathlib.Core.Bool.{Bool, true, false, cond}
 use mathlib.Core.List.{List, [], ◌∷◌, ◌++◌}
 use Prim.Native.Nat.{ℕ, ◌+◌}
 use lib.Dec.{lit≤}
 use Rattle.frame.specs.declared.Command.{Command}
 use Rattle.frame.specs.declared.Command.TheVariants as K
-use Rattle.frame.specs.declared.Subconnection.TheVariants.{Absent, Number}
 use Rattle.frame.specs.declared.Fields.{Fields}
 use Rattle.frame.specs.Control.{is}
 use Rattle.endpoint.specs.declared.Settings.{Settings}
@@ -44,7 +44,7 @@ at_slave ahead t call = called true (ahead + t) (5000 + t) call
 -- a master's frame in the session n, with the timestamp t
 sends : ℕ → Command → Bool → ℕ → ℕ → Fields
 sends n k sequence t baseline =
-    sent_fields k sequence false (cond (is k K.Connect) Absent (Number n)) 0x01020103 t baseline
+    sent_fields k sequence false (cond (is k K.Connect) None (Some n)) 0x01020103 t baseline
 
 -- a request written at t, taken by the slave, and its reply, with Busy or Error or neither, taken by the master, one
 -- tick later each
@@ -53,7 +53,7 @@ answered : (ahead n : ℕ) (busy error sequence : Bool) (t : ℕ) (k : Command) 
 answered ahead n busy error sequence t k baseline request reply =
     at_master_law t (send [])
     ∷ at_slave ahead (1 + t) (deliver (sends n k sequence t baseline) request)
-    ∷ at_master_law (2 + t) (deliver (ack_fields k busy error sequence (Number n) 0x01020103 t) reply) ∷ []
+    ∷ at_master_law (2 + t) (deliver (ack_fields k busy error sequence (Some n) 0x01020103 t) reply) ∷ []
 
 -- a setup request, whose reply repeats its data
 repeated : (ahead n : ℕ) (busy error : Bool) (t : ℕ) (k : Command) (baseline : ℕ) → List Event
@@ -91,7 +91,7 @@ refreshed ahead lead n t down up =
     ∷ at_slave ahead (1 + t) (deliver (sends n K.Refresh false t 0) down)
     ∷ at_slave ahead (10 + t) show
     ∷ at_slave ahead (11 + t) (send up)
-    ∷ at_master_law (12 + t) (deliver (sent_fields K.Refresh false true (Number n) 0x01020103 (12 + lead + t) 0) up)
+    ∷ at_master_law (12 + t) (deliver (sent_fields K.Refresh false true (Some n) 0x01020103 (12 + lead + t) 0) up)
     ∷ at_master_law (20 + t) show ∷ []
 
 -- a measurement in Refresh, the first, whose Offset op seq is 1: S-RefreshMO, and S-RefreshGO a tick after its reply

@@ -1,7 +1,7 @@
 -- The invariant of a master, a slave that may be loaded anew, and the log between them, over plain numbers.
 use mathlib.Core.Path.{◌≡◌}
+use Rattle.std.specs.Prelude.{None, Option, Some}
 use mathlib.Core.List.{List, [], ◌∷◌}
-use mathlib.Core.Option.{Option, some, none}
 use mathlib.Core.Logic.{◌⊎◌}
 use Prim.Native.Nat.{ℕ, zero, suc, ◌+◌, ◌-◌, ◌%◌, ◌^◌, ◌≤◌, ◌<◌}
 use native.Mathlib.Omega.{arith}
@@ -145,7 +145,7 @@ restarted_m m = master_of 0 m.floor m.next_out m.next_in m.held rest_m none_m
 -- an S-Refresh w taken, of place k, at the reading t
 abbrev pub took_m : Master → Mark → ℕ → ℕ → Master
 took_m m w k t = master_of m.session w.epoch m.next_out (suc w.stamp) (suc k)
-    (live_m t (counted_age (minus (t % span) w.stamp)) (some w.body)) m.measuring
+    (live_m t (counted_age (minus (t % span) w.stamp)) (Some w.body)) m.measuring
 
 abbrev pub phased_s : Slave → SPhase → SOpen → Slave
 phased_s s p q = slave_of s.number s.epoch s.next_out s.next_in s.held p q
@@ -161,7 +161,7 @@ wrote_s s r = slave_of s.number s.epoch (suc r) s.next_in s.held s.phase s.measu
 -- an S-Refresh w taken, of place k, at the reading t with the offset o reckoned with s2
 abbrev pub took_s : Slave → Mark → ℕ → ℕ → ℕ → ℕ → Slave
 took_s s w k o s2 t = slave_of s.number s.epoch s.next_out (suc w.stamp) (suc k)
-    (live_s o s2 t (counted_age (minus ((t + o) % span) w.stamp)) (some w.body)) s.measuring
+    (live_s o s2 t (counted_age (minus ((t + o) % span) w.stamp)) (Some w.body)) s.measuring
 
 -- a restart with a number
 abbrev pub restarted_s : Slave → ℕ → Slave
@@ -267,9 +267,9 @@ pub record ValueIs (m f : ℕ) (a : Margin) (v : List ℕ) (w : Mark) : Type 0 w
   pub most : f ≤ a.most
 
 abbrev pub ValueOf : List Mark → ℕ → ℕ → ℕ → Margin → Option (List ℕ) → Type 0
-ValueOf l held m f a none = Unit {0}
-ValueOf l zero m f a (some v) = ⊥
-ValueOf l (suc k) m f a (some v) = ValueIs m f a v (at l k)
+ValueOf l held m f a None = Unit {0}
+ValueOf l zero m f a (Some v) = ⊥
+ValueOf l (suc k) m f a (Some v) = ValueIs m f a v (at l k)
 
 -- ---- the master
 -- no request of it that measures is above a stamp

@@ -1,7 +1,7 @@
 -- Each step of a master or a slave keeps the invariant.
 use mathlib.Core.Path.{◌≡◌, refl, ap, sym, subst}
+use Rattle.std.specs.Prelude.{None, Option, Some}
 use mathlib.Core.List.{List, ◌∷◌}
-use mathlib.Core.Option.{Option, some, none}
 use mathlib.Core.Logic.{inl, inr, ⊎_elim}
 use Prim.Native.Nat.{ℕ, zero, suc, ◌+◌, ◌-◌, ◌%◌, ◌≤◌, ◌<◌}
 use native.Mathlib.Omega.{arith}
@@ -106,9 +106,9 @@ held_in P l (suc h) v = v.there
 
 value_snoc : (P : Mark → Type 0) (l : List Mark) (w : Mark) (h m f : ℕ) (a : Margin) (v : Option (List ℕ))
     → Held P l h → ValueOf l h m f a v → ValueOf (snoc l w) h m f a v
-value_snoc P l w h m f a none g p = p
-value_snoc P l w zero m f a (some v) g p = p
-value_snoc P l w (suc h) m f a (some v) g p = still (ValueIs m f a v) l w h g.there p
+value_snoc P l w h m f a None g p = p
+value_snoc P l w zero m f a (Some v) g p = p
+value_snoc P l w (suc h) m f a (Some v) g p = still (ValueIs m f a v) l w h g.there p
 
 go_snoc : (c : MasterTerms) (l : List Mark) (x w : Mark) → (w.who ≡ 0 → x.stamp ≤ w.stamp) → Has (GoOf c l x) l
     → Has (GoOf c (snoc l w) x) (snoc l w)
@@ -514,7 +514,7 @@ module _ {c : MasterTerms} {d : SlaveTerms} {now : ℕ} {g : List Grant} {l : Li
         given = λ u e. let z = x.session in subst (λ (u' : ℕ). Given g u' (at l k).epoch) (omega arith) x.given;
         held = record { there = i; fits = record { who = a; code = b; below = omega arith; old = omega arith } };
         phase = (omega arith, record { body = refl; low = omega arith; high = omega arith; most = y.late });
-        measuring = now_live c l m.next_out m.held (suc k) t age (some (at l k).body) m.phase m.measuring
+        measuring = now_live c l m.next_out m.held (suc k) t age (Some (at l k).body) m.phase m.measuring
             q.measuring;
       })
 
@@ -782,12 +782,12 @@ module _ {c : MasterTerms} {d : SlaveTerms} {now : ℕ} {g : List Grant} {l : Li
   pub s_goes : (t k code s2 : ℕ) (b : List ℕ) → s.measuring ≡ armed s2 → Latest d.calls t now
       → t ≤ s2 + d.trip → k < size l → (at l k).who ≡ 0 → (at l k).code ≡ 254 → s.next_in ≤ (at l k).stamp
       → Inv c d now g (snoc l (reply_s s code (at l k).stamp now b)) m
-      (heard_s s (at l k).stamp (live_s (offset_from (at l k).stamp (at l k).baseline s2) s2 t 0 none) none_s)
+      (heard_s s (at l k).stamp (live_s (offset_from (at l k).stamp (at l k).baseline s2) s2 t 0 None) none_s)
   s_goes t k code s2 b e ti h i a f o =
       let M = measured k s2 e i a f o in
       let u = v.small_s.trip in
       let P = pace_in 65535 s2 M.m2 t now (ti.paced s2 M.m2 M.at2) (omega arith) (omega arith) in
-      s_replies k code b (live_s (offset_from (at l k).stamp (at l k).baseline s2) s2 t 0 none) none_s i a o
+      s_replies k code b (live_s (offset_from (at l k).stamp (at l k).baseline s2) s2 t 0 None) none_s i a o
       (record {
         m2 = M.m2;
         m = now;

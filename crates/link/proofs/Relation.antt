@@ -1,9 +1,9 @@
 -- Two endpoints and their log against the invariant's master, slave and marks.
 use mathlib.Core.Path.{◌≡◌, refl, sym, ap, ◌∙◌}
+use Rattle.std.specs.Prelude.{None, Option, Some, ℕ}
 use mathlib.Core.Bool.{Bool, true, false, ◌&&◌, ◌||◌, cond, and-false, true≢false, false≢true}
 use mathlib.Core.Logic.{⊎_elim}
 use mathlib.Core.List.{List, map}
-use mathlib.Core.Option.{Option, some, none}
 use Prim.Native.Nat.{ℕ, suc, ◌+◌, ◌-◌, ◌%◌, ◌≤◌, ◌<◌}
 use native.Mathlib.Omega.{arith}
 use lib.Dec.{ltb, leb}
@@ -11,16 +11,11 @@ use lib.ListN.{length}
 use borrow.Author.Tests.{ltb-true, ltb-false, not-true}
 use mathlib.Mathlib.Data.Bool.Basic.{and_elim_right as and_right}
 use Rattle.frame.specs.declared.Command.TheVariants as K
-use Rattle.frame.specs.declared.Subconnection.{Subconnection}
-use Rattle.frame.specs.declared.Subconnection.TheVariants.{Absent, Number}
 use Rattle.frame.specs.declared.Fields.{Fields}
 use Rattle.frame.specs.Control.{is, code_of, may_be_busy, narrowed}
 use Rattle.words.specs.Words.{word_at}
 use Rattle.endpoint.specs.declared.Settings.{Settings}
 use Rattle.endpoint.specs.declared.State.TheVariants.{Refresh, RefreshPending}
-use Rattle.endpoint.specs.declared.Timestamp.{Timestamp}
-use Rattle.endpoint.specs.declared.Timestamp.TheVariants.{Never, At}
-use Rattle.endpoint.specs.declared.Pending.TheVariants.{Nothing, Asked}
 use Rattle.endpoint.specs.declared.Queue.{Queue}
 use Rattle.endpoint.specs.declared.Station.{Station}
 use Rattle.endpoint.specs.Endpoint.{Value, Words, Endpoint}
@@ -52,9 +47,9 @@ pub small_of : (s : Settings) → Ticks s → Small s.roundtrip s.interval s.age
 small_of s p = record { trip = p.roundtrip; hold = p.interval; some = p.some; age = p.age }
 
 -- one above the session number in a frame, 0 where it has none
-abbrev pub numbered : Subconnection → ℕ
-numbered Absent = 0
-numbered (Number n) = suc n
+abbrev pub numbered : Option ℕ → ℕ
+numbered None = 0
+numbered (Some n) = suc n
 
 -- 0 the master, 1 the slave's reply, 2 the slave's S-Refresh
 abbrev pub who_of : Fields → ℕ
@@ -68,13 +63,13 @@ unfoldable pub marks : List Sent → List Mark
 marks l = map mark_of l
 
 -- one above a remembered timestamp
-abbrev pub top_of : Timestamp → ℕ
-top_of Never = 0
-top_of (At r) = suc r
+abbrev pub top_of : Option ℕ → ℕ
+top_of None = 0
+top_of (Some r) = suc r
 
-pub above_top : (o : Timestamp) (s : ℕ) → is_above o s ≡ true → top_of o ≤ s
-above_top Never s h = omega arith
-above_top (At r) s h = ltb-true r s h
+pub above_top : (o : Option ℕ) (s : ℕ) → is_above o s ≡ true → top_of o ≤ s
+above_top None s h = omega arith
+above_top (Some r) s h = ltb-true r s h
 
 -- ---- what its user tells an endpoint: whether the station is ready, the queue, the words and the error record handed
 -- over; nothing that the relation turns on
@@ -85,8 +80,8 @@ told_of e s q w r =
 
 -- ---- the value held
 abbrev pub Holds : Settings → Value → Option (List ℕ) → Type 0
-Holds s v none = v.taken ≡ false
-Holds s v (some b) = (v.taken ≡ true) × (v.bytes ≡ padded_of b) × (length b ≡ show_width s)
+Holds s v None = v.taken ≡ false
+Holds s v (Some b) = (v.taken ≡ true) × (v.bytes ≡ padded_of b) × (length b ≡ show_width s)
 
 -- ---- a master
 -- in Refresh, with the measurement that is under way, or is late: S-RefreshMO has no reply yet, or has one and no
@@ -95,8 +90,8 @@ pub record LiveAtM (e : Endpoint) (m : Master) : Type 0 where
   pub value : Option (List ℕ)
   pub phase : m.phase ≡ live_m e.since e.value.age value
   pub holds : Holds e.settings e.value value
-  pub asks : e.measurement.answered ≡ false → (s : ℕ) → e.setup.pending ≡ Asked s → m.measuring ≡ asked s
-  pub closes : e.measurement.answered ≡ true → e.setup.pending ≡ Nothing
+  pub asks : e.measurement.answered ≡ false → (s : ℕ) → e.setup.pending ≡ Some s → m.measuring ≡ asked s
+  pub closes : e.measurement.answered ≡ true → e.setup.pending ≡ None
       → m.measuring ≡ got e.setup.measured
 
 pub record AskedAt (e : Endpoint) (m : Master) (s : ℕ) : Type 0 where
@@ -114,8 +109,8 @@ pub record RelM (e : Endpoint) (took : ℕ) (m : Master) : Type 0 where
   pub next_in : top_of e.timestamps.accepted ≡ m.next_in
   pub held : took ≡ m.held
   pub live : is_state e.state Refresh ≡ true → LiveAtM e m
-  pub pend : is_setup e.state ≡ true → (s : ℕ) → e.setup.pending ≡ Asked s → AskedAt e m s
-  pub ready : is_state e.state RefreshPending ≡ true → e.setup.pending ≡ Nothing → GotAt e m
+  pub pend : is_setup e.state ≡ true → (s : ℕ) → e.setup.pending ≡ Some s → AskedAt e m s
+  pub ready : is_state e.state RefreshPending ≡ true → e.setup.pending ≡ None → GotAt e m
 
 -- ---- a slave
 -- in Refresh, with the measurement that is under way, or is late: S-RefreshMO was answered
@@ -130,7 +125,7 @@ pub record ArmedAt (e : Endpoint) (s : Slave) : Type 0 where
   pub since : e.since ≡ e.setup.measured
 
 pub record RelS (sm : Settings) (loads : ℕ) (e : Endpoint) (took : ℕ) (s : Slave) : Type 0 where
-  pub number : session_of e ≡ Number s.number
+  pub number : session_of e ≡ Some s.number
   pub epoch : loads ≡ s.epoch
   pub next_out : top_of e.timestamps.sent ≡ s.next_out
   pub next_in : top_of e.timestamps.accepted ≡ s.next_in
@@ -145,7 +140,7 @@ pub record RelS (sm : Settings) (loads : ℕ) (e : Endpoint) (took : ℕ) (s : S
 -- number has 16 bits; and the master's S-InitConfirmNetPrm has its own settings
 pub record Honest (sm : Settings) (w : Sent) : Type 0 where
   pub writer : w.fields.application ≡ w.slave
-  pub value : is w.fields.command K.Refresh ≡ true → w.lent ≡ some w.body
+  pub value : is w.fields.command K.Refresh ≡ true → w.lent ≡ Some w.body
   pub busy : w.fields.busy ≡ true → may_be_busy w.fields.command ≡ true
   pub session : narrowed w.fields.subconnection ≡ w.fields.subconnection
   pub confirms : w.fields.application ≡ false → is w.fields.command K.ConfirmNetwork ≡ true
@@ -157,9 +152,9 @@ unfolding setup_data
 roundtrip_in s = omega arith
 
 -- a session number as an endpoint's frames carry it has no more to lose
-pub narrowed_again : (s : Subconnection) → narrowed (narrowed s) ≡ narrowed s
-narrowed_again Absent = refl
-narrowed_again (Number n) = let z : n % 65536 % 65536 ≡ n % 65536 = omega arith in ap Number z
+pub narrowed_again : (s : Option ℕ) → narrowed (narrowed s) ≡ narrowed s
+narrowed_again None = refl
+narrowed_again (Some n) = let z : n % 65536 % 65536 ≡ n % 65536 = omega arith in ap Some z
 
 -- calls and ss are the slave's calls and settings as it was last loaded, after so many loads
 pub record Linked (shift : ℕ) (calls : List Reading) (sm ss : Settings) (loads : ℕ) (given : List Grant) (now : ℕ)

@@ -1,8 +1,8 @@
 -- The shows of a run and their sends: stable while the log grows, and one more show.
 use mathlib.Core.Path.{◌≡◌, refl, sym, ap, subst, ◌∙◌}
+use Rattle.std.specs.Prelude.{Some}
 use mathlib.Core.Bool.{Bool, true, false, not, cond}
 use mathlib.Core.List.{List, [], ◌∷◌, ◌++◌}
-use mathlib.Core.Option.{some}
 use Prim.Native.Nat.{ℕ, suc, ◌+◌, ◌≤◌, ◌<◌}
 use native.Mathlib.Numerals.{add-one}
 use native.Mathlib.Omega.{arith}
@@ -195,7 +195,7 @@ sent_by sm e log slave took m age bytes role few honest s =
       fits = record {
         other = sym h.writer ∙ writer_of slave (sent_at log k).fields w;
         refresh = r;
-        value = h.value r ∙ ap some (sym (ap (λ (y : Mark). y.body) q) ∙ s.body);
+        value = h.value r ∙ ap Some (sym (ap (λ (y : Mark). y.body) q) ∙ s.body);
         bounded = bounded_at slave e m (sent_at log k).moment role asked.young;
         aged = asked;
         sharper = its (drift_share (shown slave e m bytes age took (length log))) (omega arith);

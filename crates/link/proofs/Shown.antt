@@ -1,8 +1,8 @@
 -- What is shown: the body of the S-Refresh last taken, and its age.
 use mathlib.Core.Path.{◌≡◌, sym, ap, ◌∙◌}
+use Rattle.std.specs.Prelude.{None, Option, Some}
 use mathlib.Core.Bool.{Bool, true, false, ◌&&◌, cond, true≢false}
 use mathlib.Core.List.{List, ◌++◌}
-use mathlib.Core.Option.{Option, some, none}
 use Prim.Native.Nat.{ℕ, zero, suc, ◌+◌, ◌-◌, ◌^◌, ◌≤◌, ◌<◌}
 use native.Mathlib.Omega.{arith}
 use lib.ListN.{length, take, drop, replicate}
@@ -67,7 +67,7 @@ front_padded b n e h =
     ap (λ (x : List ℕ). take n (x ++ drop (length b) (replicate 100 0))) (take_all 100 b (omega arith))
     ∙ take_at b (drop (length b) (replicate 100 0)) n e
 
-pub shown_is : (e : Endpoint) (b : List ℕ) → is_fail_safe e ≡ false → Holds e.settings e.value (some b)
+pub shown_is : (e : Endpoint) (b : List ℕ) → is_fail_safe e ≡ false → Holds e.settings e.value (Some b)
     → shown_of e ≡ b
 shown_is e b h v =
     ap (λ (x : Bool). take (show_width e.settings) (held_or x e.value.bytes)) h
@@ -80,9 +80,9 @@ pub held_shown : (e : Endpoint) (l : List Mark) (P : Mark → Type 0) (kind took
     → ((x : Mark) → P x → (x.who ≡ kind) × (x.code ≡ 255))
     → ValueOf l h m (e.value.age + (t - e.since)) a v → Each (λ x. x.moment ≤ m) l → Within a b
     → ShownAt l kind took m (held_age e t) b (shown_of e)
-held_shown e l P kind took t m a b none h n o q g y w past x = absurd (true≢false (sym (is_taken e n) ∙ o))
-held_shown e l P kind took t m a b (some v) zero n o q g y w past x = absurd w
-held_shown e l P kind took t m a b (some v) (suc j) n o q g y w past x =
+held_shown e l P kind took t m a b None h n o q g y w past x = absurd (true≢false (sym (is_taken e n) ∙ o))
+held_shown e l P kind took t m a b (Some v) zero n o q g y w past x = absurd w
+held_shown e l P kind took t m a b (Some v) (suc j) n o q g y w past x =
     let f : held_age e t ≡ e.value.age + (t - e.since) = omega arith in
     let z = y (at l j) g.fits in
     record {

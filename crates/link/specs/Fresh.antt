@@ -1,7 +1,7 @@
 -- Demand 3 for two endpoints: every value shown has its send, in order, and is not too old; and the age that it is
 -- shown with is close to the true one.
 use Rattle.std.specs.Prelude.{◌≡◌, Bool, true, false, not, cond, List, ℕ, suc, ◌+◌, ◌≤◌, ◌<◌, length}
-use Rattle.std.proofs.Math.Option.{some}
+use Rattle.std.specs.Prelude.{Some}
 use Rattle.frame.specs.declared.Command.TheVariants as K
 use Rattle.frame.specs.Control.{is}
 use Rattle.endpoint.specs.declared.Settings.{Settings}
@@ -40,7 +40,7 @@ drift_share x = 3 + cond x.slave (drift x.settings.interval) 0
 pub record ItsSend (x : Show) (w : Sent) : Type 0 where
   pub other : w.slave ≡ not x.slave
   pub refresh : is w.fields.command K.Refresh ≡ true
-  pub value : w.lent ≡ some x.bytes
+  pub value : w.lent ≡ Some x.bytes
   -- "Ages are then bounded by A + I + 10 at the slave and A + I + R + 10 at the master, in the master's ticks. Note 7's
   -- figures may fall 10 lower."
   pub bounded : x.moment ≤ w.moment + bound_of x.settings

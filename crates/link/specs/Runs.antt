@@ -1,17 +1,15 @@
 -- Two endpoints of one CID over a list of calls (document 01, "What demand 3 runs over") and loadings of the slave
 -- (document 02, note 8), with clocks that drift (note 9), and with frames as fields and bodies.
 use Rattle.std.specs.Prelude.{Bool, true, false, ◌&&◌, ◌||◌, not, cond, List, [], ◌∷◌, ◌++◌, ℕ, suc, ◌-◌, ◌%◌, eqb, leb, length, get_or}
+use Rattle.std.specs.Prelude.{None, Option, Some}
 use Rattle.std.specs.Bool.{beq}
-use Rattle.std.proofs.Math.Option.{Option, some, none}
 use Rattle.frame.specs.declared.Command.TheVariants as K
-use Rattle.frame.specs.declared.Subconnection.{Subconnection}
-use Rattle.frame.specs.declared.Subconnection.TheVariants.{Absent, Number}
 use Rattle.frame.specs.declared.Fields.{Fields}
 use Rattle.frame.specs.Control.{is, is_same}
 use Rattle.words.specs.Bytes.{same}
 use Rattle.endpoint.specs.declared.Settings.{Settings}
 use Rattle.endpoint.specs.Endpoint.{Endpoint}
-use Rattle.endpoint.specs.declared.Answer.{Answer}
+use Rattle.endpoint.specs.Answers.{Answer}
 use Rattle.endpoint.specs.Answers.{is_done}
 use Rattle.endpoint.specs.Time.{last_reading, held_age}
 use Rattle.transitions.specs.ByCall.{fresh_of}
@@ -47,19 +45,19 @@ no_sent = record {
   slave = false;
   moment = 0;
   loads = 0;
-  fields = sent_fields K.Connect false false Absent 0 0 0;
+  fields = sent_fields K.Connect false false None 0 0 0;
   body = [];
-  lent = none;
+  lent = None;
 }
 
 unfoldable pub sent_at : List Sent → ℕ → Sent
 sent_at l i = get_or l i no_sent
 
 abbrev pub lent_to : Call → Option (List ℕ)
-lent_to (act a) = none
-lent_to (send value) = some value
-lent_to (deliver f body) = none
-lent_to show = none
+lent_to (act a) = None
+lent_to (send value) = Some value
+lent_to (deliver f body) = None
+lent_to show = None
 
 -- what is written for a user is no frame, whatever bytes it is
 abbrev pub logged : Bool → ℕ → ℕ → Call → Written → List Sent
@@ -123,10 +121,10 @@ given_after slave loads show answer given = given
 
 -- "provided neither that number nor one given at a later restart is in any of those frames that still travels then": of
 -- a frame's number and the loadings before it, that no number which it carries was given after a later loading
-unfoldable pub may_travel : List Grant → Subconnection → ℕ → Bool
+unfoldable pub may_travel : List Grant → Option ℕ → ℕ → Bool
 may_travel [] session loads = true
 may_travel (g ∷ gs) session loads =
-    (not (is_same session (Number g.number)) || leb g.loads loads) && may_travel gs session loads
+    (not (is_same session (Some g.number)) || leb g.loads loads) && may_travel gs session loads
 
 -- ---- what is shown
 pub record Show : Type 0 where

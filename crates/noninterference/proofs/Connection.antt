@@ -2,6 +2,8 @@
 -- it is given, the answer is the same, what is written is the same but for a record that is exchanged, and so is what is
 -- left.
 use mathlib.Core.Path.{◌≡◌, refl, sym, ap, ap₂, subst, subst₂, ◌∙◌}
+use Rattle.std.specs.Prelude.{Err, Ok}
+use Rattle.std.specs.Prelude.{None}
 use mathlib.Core.Bool.{Bool, true, false, ◌&&◌, ◌||◌, not, cond, and-false, or-true, beq, false≢true, true≢false}
 use mathlib.Core.List.{List}
 use mathlib.Core.Logic.{◌⊎◌, inl, inr}
@@ -26,11 +28,10 @@ use Rattle.endpoint.specs.declared.Queue.{Queue}
 use Rattle.endpoint.specs.declared.Queue.TheVariants as Q
 use Rattle.endpoint.specs.Endpoint.{Endpoint, Words, words_of}
 use Rattle.endpoint.specs.declared.Reason.TheVariants as R
-use Rattle.endpoint.specs.declared.Answer.{Answer}
-use Rattle.endpoint.specs.declared.Answer.TheVariants.{Done, Dropped, Ended}
+use Rattle.endpoint.specs.Answers.{Answer}
+use Rattle.endpoint.specs.declared.Refusal.TheVariants.{Dropped, Ended}
 use Rattle.endpoint.specs.Answers.{record_faults, setup_faults, first_of, is_done, is_dropped, is_ended, left_by}
 use Rattle.endpoint.specs.Table.{is_state, is_setup, is_terminated, request_of, next_of, is_no}
-use Rattle.endpoint.specs.declared.Pending.TheVariants.{Nothing}
 use Rattle.endpoint.specs.Due.{is_waiting, is_command_due, queued_in, request_due, is_pending, answers_to, is_held_back, may_queue}
 use Rattle.endpoint.specs.Due.{may_queue_read, measurement_interval, is_open, refresh_due}
 use Rattle.endpoint.specs.Time.{is_above, ended_of}
@@ -193,9 +194,9 @@ module _ (P : ErrorRecord → ErrorRecord) (one : OneToOne P) (c : Call) where
 
   likes_left : {y y' z z' v v' : Endpoint} (a : Answer) → Likes P y y' → Likes P z z' → Likes P v v'
       → Likes P (left_by a y z v) (left_by a y' z' v')
-  likes_left Done p q r = r
-  likes_left (Dropped x) p q r = p
-  likes_left (Ended x) p q r = q
+  likes_left (Ok _) p q r = r
+  likes_left (Err (Dropped x)) p q r = p
+  likes_left (Err (Ended x)) p q r = q
 
   unless : {w w' : Written} (b : Bool) → (b ≡ false → Writes P c w w')
       → Writes P c (cond b W.nothing w) (cond b W.nothing w')
@@ -255,42 +256,42 @@ module _ (P : ErrorRecord → ErrorRecord) (one : OneToOne P) (c : Call) where
       pub act_both : (a : Act) → hands_record a ≡ false → Both P c (act_of e t a) (act_of (held e) t a)
       act_both start n =
           either (not e.settings.slave && is_state e.state Close)
-          (λ k. stays Done (started_of e t) (λ q. (quiet Q.Empty refl q, refl)) nothing) (λ k. dropping (Dropped R.Turn))
+          (λ k. stays (Ok tt) (started_of e t) (λ q. (quiet Q.Empty refl q, refl)) nothing) (λ k. dropping (Err (Dropped R.Turn)))
       act_both stop n =
           let a = first_of (stop_faults e t) in
           either (is_dropped a) (λ k. dropping a)
-          (λ k. stays Done (stopped_of e t) (λ q. (quiet Q.Empty refl q, refl)) disconnects)
+          (λ k. stays (Ok tt) (stopped_of e t) (λ q. (quiet Q.Empty refl q, refl)) disconnects)
       act_both (restart number) n =
-          either (is_terminated e.state) (λ k. stays Done (restarted_of e number) (λ q. (q, refl)) nothing)
-          (λ k. dropping (Dropped R.Turn))
+          either (is_terminated e.state) (λ k. stays (Ok tt) (restarted_of e number) (λ q. (q, refl)) nothing)
+          (λ k. dropping (Err (Dropped R.Turn)))
       act_both (set_not_ready r) n =
-          either e.settings.slave (λ k. stays Done (with_not_ready r e) (λ q. (q, refl)) nothing)
-          (λ k. dropping (Dropped R.Turn))
+          either e.settings.slave (λ k. stays (Ok tt) (with_not_ready r e) (λ q. (q, refl)) nothing)
+          (λ k. dropping (Err (Dropped R.Turn)))
       act_both (set_result body) n =
           let a = first_of (hand_faults e.settings.slave (length body)) in
           either (is_done a)
-          (λ k. stays Done (with_words (words_of (length body / 4) (padded_of body)) e) (λ q. (q, refl)) nothing)
+          (λ k. stays (Ok tt) (with_words (words_of (length body / 4) (padded_of body)) e) (λ q. (q, refl)) nothing)
           (λ k. dropping a)
       act_both clear_result n =
           either e.settings.slave
-          (λ k. stays Done (with_words (words_of 0 e.words.bytes) e) (λ q. (q, refl)) nothing)
-          (λ k. dropping (Dropped R.Turn))
+          (λ k. stays (Ok tt) (with_words (words_of 0 e.words.bytes) e) (λ q. (q, refl)) nothing)
+          (λ k. dropping (Err (Dropped R.Turn)))
       act_both (set_record body) n = absurd (true≢false n)
       act_both clear_record n =
           either e.settings.slave
-          (λ k. stays Done (with_error_info (words_of 0 e.errorinfo.bytes) e)
+          (λ k. stays (Ok tt) (with_error_info (words_of 0 e.errorinfo.bytes) e)
           (λ q. let z : false ≡ true = rw k at q in absurd (false≢true z)) nothing)
-          (λ k. dropping (Dropped R.Turn))
+          (λ k. dropping (Err (Dropped R.Turn)))
       act_both (invoke word bytes) n =
           let s = command_data word bytes in
           let a = first_of (hand_faults (may_queue e) (length s)) in
           either (is_done a)
-          (λ k. stays Done (invoked_of e (words_of (length s / 4) (padded_of s)))
+          (λ k. stays (Ok tt) (invoked_of e (words_of (length s / 4) (padded_of s)))
           (λ q. (quiet Q.InvokeFunc refl q, refl)) nothing) (λ k. dropping a)
       act_both read_error n =
           either (may_queue_read e)
-          (λ k. stays Done (read_queued_of e) (λ q. (quiet Q.ReadErrorInfo refl q, refl)) nothing)
-          (λ k. dropping (Dropped R.Turn))
+          (λ k. stays (Ok tt) (read_queued_of e) (λ q. (quiet Q.ReadErrorInfo refl q, refl)) nothing)
+          (λ k. dropping (Err (Dropped R.Turn)))
       act_both (write_error body) n = absurd (true≢false n)
 
     -- ---- an error record that is handed over
@@ -362,11 +363,11 @@ module _ (P : ErrorRecord → ErrorRecord) (one : OneToOne P) (c : Call) where
         either (is_done a)
         (λ d. either (is_state e.state Refresh)
         (λ k. either (is_value_due e t)
-        (λ v. stays Done (refresh_sent_of e t) (λ q. (q, refl)) (sends (refresh_fields e t)
+        (λ v. stays (Ok tt) (refresh_sent_of e t) (λ q. (q, refl)) (sends (refresh_fields e t)
         (record { carried = λ z. absurd (false≢true z); plain = λ z. refl })))
-        (λ v. stays Done (measurement_sent_of e (refresh_due e t) t) (λ q. (q, refl))
+        (λ v. stays (Ok tt) (measurement_sent_of e (refresh_due e t) t) (λ q. (q, refl))
         (sends (measurement_fields e (refresh_due e t) t) (measurement_bodies t))))
-        (λ k. stays Done (requested_of e t)
+        (λ k. stays (Ok tt) (requested_of e t)
         (λ q. (less s (still_waits (is (request_due e) K.RefreshReady) e.setup.queue) q, refl))
         (sends (request_fields e t)
         (request_bodies t (master_requests e (may_request_law e t (length v) k (is_done_law a d)))))))
@@ -615,8 +616,8 @@ module _ (P : ErrorRecord → ErrorRecord) (one : OneToOne P) (c : Call) where
         heard_both =
             likes_by (is_state e.state Refresh)
             (likes_by (is f.command K.RefreshMo)
-            (likes (with_pending Nothing (with_measured t (with_answered true e))) (λ q. (q, refl)))
-            (likes (with_pending Nothing (with_answered false e)) (λ q. (q, refl))))
+            (likes (with_pending None (with_measured t (with_answered true e))) (λ q. (q, refl)))
+            (likes (with_pending None (with_answered false e)) (λ q. (q, refl))))
             (likes_by f.busy (likes (due_again_of e t) (λ q. (q, refl)))
             (likes_by (is_command_due e) (likes (performed_of e t) (λ q. (quiet Q.Empty refl q, refl)))
             (likes (confirmed_of e t f) (λ q. (q, refl)))))
@@ -640,7 +641,7 @@ module _ (P : ErrorRecord → ErrorRecord) (one : OneToOne P) (c : Call) where
       deliver_held : ((is f.command K.ReadErrorInfo && f.ack) ≡ true → reads_record c ≡ true)
           → Both P c (deliver_of e t f b) (deliver_of (held e) t f b')
       deliver_held reads =
-          either (beq f.application e.settings.slave) (λ z. dropping (Dropped R.Echo))
+          either (beq f.application e.settings.slave) (λ z. dropping (Err (Dropped R.Echo)))
           (λ z. either (is f.command K.Refresh) refresh_both
           (λ k. either e.settings.slave (λ s. request_both) (λ s. reply_both s reads)))
 

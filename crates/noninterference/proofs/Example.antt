@@ -1,6 +1,9 @@
 -- The theorem's premises can be met: the day of week moved on by one is a map that is not the identity; for every such map
 -- bytes and frames have their exchange; and a station's record is set, read and written in two runs.
 use mathlib.Core.Path.{◌≡◌, refl, sym, ap, subst, ◌∙◌}
+use Rattle.std.specs.Prelude.{Err, None, Ok, Option, Some, ℕ}
+use Rattle.frame.specs.Reading.{Reading}
+use Rattle.frame.specs.Reading.{frame_with}
 use mathlib.Core.Bool.{Bool, true, false, cond, ◌&&◌, false≢true, true≢false}
 use mathlib.Core.List.{List, [], ◌∷◌}
 use mathlib.Mathlib.Data.Bool.Basic.{and_elim_left as and_left, and_elim_right as and_right}
@@ -19,11 +22,7 @@ use Rattle.errors.specs.Writing.{is_valid, date_bytes, bytes_of}
 use Rattle.errors.proofs.ReadBack.{round_trip}
 use Rattle.frame.specs.declared.Command.{Command}
 use Rattle.frame.specs.declared.Command.TheVariants as K
-use Rattle.frame.specs.declared.Subconnection.{Subconnection}
-use Rattle.frame.specs.declared.Subconnection.TheVariants.{Absent, Number}
 use Rattle.frame.specs.declared.Fields.{Fields}
-use Rattle.frame.specs.declared.Reading.{Reading}
-use Rattle.frame.specs.declared.Reading.TheVariants.{Frame, Refused}
 use Rattle.frame.specs.Control.{is, control_of, has_form}
 use Rattle.frame.specs.Reading.{has_check_word, fields_in, reading_of_copies, reading_of}
 use Rattle.frame.specs.Writing.{head_bytes, with_check_word, twice, sub_bytes, frame_bytes, is_writable}
@@ -45,12 +44,8 @@ use Rattle.noninterference.proofs.NonInterference.{non_interference}
 -- ---- the day of week, of 0 to 6, moved on by one
 turned : ErrorRecord → ErrorRecord
 turned x = record {
-  year = x.year;
-  month = x.month;
-  day = x.day;
-  hour = x.hour;
-  minute = x.minute;
-  second = x.second;
+  date = x.date;
+  time = x.time;
   weekday = (x.weekday + 1) % 7;
   count = x.count;
   details = x.details;
@@ -60,9 +55,9 @@ turned x = record {
 week_fits : (x : ErrorRecord) → is_valid x ≡ true → x.weekday ≤ 6
 unfolding is_valid
 week_fits x h =
-    let a = and_right (leb x.year 9999) _ h in
-    let b = and_right (is_date x.year x.month x.day) _ a in
-    let c = and_right (is_time x.hour x.minute x.second) _ b in
+    let a = and_right (leb x.date.year 9999) _ h in
+    let b = and_right (is_date x.date.year x.date.month x.date.day) _ a in
+    let c = and_right (is_time x.time.hour x.time.minute x.time.second) _ b in
     leb-true x.weekday 6 (and_left (leb x.weekday 6) _ c)
 
 turned_valid : (x : ErrorRecord) → Valid x → Valid (turned x)
@@ -82,12 +77,8 @@ turned_once x y v w e =
     let m = week_fits y w.valid in
     let d : x.weekday ≡ y.weekday = omega (arith, q, l, m) in
     λ i. record {
-      year = (e i).year;
-      month = (e i).month;
-      day = (e i).day;
-      hour = (e i).hour;
-      minute = (e i).minute;
-      second = (e i).second;
+      date = (e i).date;
+      time = (e i).time;
       weekday = d i;
       count = (e i).count;
       details = (e i).details;
@@ -122,24 +113,24 @@ module _ (P : ErrorRecord → ErrorRecord) where
   frame_exchanged s y = go (reading_of s) refl
     where
       go : (r : Reading) → reading_of s ≡ r → (s' : List ℕ) × ExchangedFrame P s s'
-      go (Refused fault) e = (s, ExchangedFrame.other s (ap (is_record_in s) e))
-      go (Frame f from to) e =
-          let b = slice from to s in
+      go (Err fault) e = (s, ExchangedFrame.other s (ap (is_record_in s) e))
+      go (Ok read) e =
+          let b = slice read.start read.end s in
           let x = record_of b in
-          let w = frame-trip.back s f from to y e in
-          bcase (carries_record f && is_record b)
+          let w = frame-trip.back s read.fields read.start read.end y e in
+          bcase (carries_record read.fields && is_record b)
           (λ h.
-          let i = and_right (carries_record f) (is_record b) h in
+          let i = and_right (carries_record read.fields) (is_record b) h in
           let q = (round_trip.back b w.0.typed.bytes i).1 in
-          let r : Readable f b = record {
+          let r : Readable read.fields b = record {
             baseline = w.0.typed.baseline;
             subconnection = w.0.typed.subconnection;
             formed = w.0.formed;
           } in (
-            frame_bytes f (bytes_of (P x)),
-            subst (λ (l : List ℕ). ExchangedFrame P l (frame_bytes f (bytes_of (P x)))) (ap (frame_bytes f) q ∙ w.1)
-                (ExchangedFrame.record' f x (valid_in b w.0.typed.bytes i)
-                (and_left (carries_record f) (is_record b) h) (subst (Readable f) (sym q) r)),
+            frame_bytes read.fields (bytes_of (P x)),
+            subst (λ (l : List ℕ). ExchangedFrame P l (frame_bytes read.fields (bytes_of (P x)))) (ap (frame_bytes read.fields) q ∙ w.1)
+                (ExchangedFrame.record' read.fields x (valid_in b w.0.typed.bytes i)
+                (and_left (carries_record read.fields) (is_record b) h) (subst (Readable read.fields) (sym q) r)),
           ))
           (λ h. (s, ExchangedFrame.other s (ap (is_record_in s) e ∙ h)))
 
@@ -157,12 +148,8 @@ number = 7
 -- 29 February 2024, a Thursday, with one detail
 thursday : ErrorRecord
 thursday = record {
-  year = 2024;
-  month = 2;
-  day = 29;
-  hour = 12;
-  minute = 34;
-  second = 56;
+  date = record { year = 2024; month = 2; day = 29 };
+  time = record { hour = 12; minute = 34; second = 56 };
   weekday = 4;
   count = 1;
   details = 7 ∷ replicate 9 0;
@@ -179,8 +166,8 @@ unfolding thursday is_valid is_date days_in days_of
 is_valid_law = record { typed = record { details = refl }; valid = refl }
 
 -- an S-Connect request carries none
-session : Bool → Subconnection
-session connects = cond connects Absent (Number number)
+session : Bool → Option ℕ
+session connects = cond connects None (Some number)
 
 fits : (connects : Bool) → SubconnectionFits (session connects)
 unfolding number session
@@ -259,7 +246,7 @@ wrote d [] = []
 wrote d (v ∷ vs) = let r = call_in d v.0 v.1 v.2 in r.writes ∷ wrote r.lent vs
 
 replied : ℕ → Command → List ℕ → Written
-replied t k body = frame (ack_fields k false false false (Number number) cid t) body
+replied t k body = frame (ack_fields k false false false (Some number) cid t) body
 
 replies : ErrorRecord → List Written
 replies x =

@@ -1,6 +1,9 @@
 -- What error records say changes nothing but what carries them: every call in both runs, every pair of lists of calls, and
 -- tables as loaded.
 use mathlib.Core.Path.{◌≡◌, refl, sym, ap, subst, subst₂, ◌∙◌}
+use Rattle.std.specs.Prelude.{Err, Ok}
+use Rattle.frame.specs.Reading.{Reading}
+use Rattle.frame.specs.Reading.{frame_with}
 use mathlib.Core.Bool.{Bool, true, false, ◌&&◌, not, cond, and-false, false≢true, true≢false}
 use mathlib.Core.List.{List}
 use Prim.Native.Nat.{ℕ}
@@ -14,8 +17,6 @@ use Rattle.errors.specs.Reading.{is_record}
 use Rattle.errors.specs.Writing.{bytes_of}
 use Rattle.frame.specs.declared.Command.TheVariants as K
 use Rattle.frame.specs.declared.Fields.{Fields}
-use Rattle.frame.specs.declared.Reading.{Reading}
-use Rattle.frame.specs.declared.Reading.TheVariants.{Frame, Refused}
 use Rattle.frame.specs.Control.{is}
 use Rattle.frame.specs.Reading.{reading_of}
 use Rattle.frame.specs.Writing.{frame_bytes}
@@ -25,8 +26,8 @@ use Rattle.frame.proofs.ReadBack.{round_trip as frame-trip}
 use Rattle.endpoint.specs.Endpoint.{Endpoint}
 use Rattle.endpoint.specs.declared.Reason.{Reason}
 use Rattle.endpoint.specs.declared.Reason.TheVariants as R
-use Rattle.endpoint.specs.declared.Answer.{Answer}
-use Rattle.endpoint.specs.declared.Answer.TheVariants.{Done, Dropped, Ended}
+use Rattle.endpoint.specs.Answers.{Answer}
+use Rattle.endpoint.specs.declared.Refusal.TheVariants.{Dropped, Ended}
 use Rattle.endpoint.specs.Answers.{is_done}
 use Rattle.endpoint.specs.Time.{is_expired, ended_of, after_tick}
 use Rattle.transitions.specs.ByCall.{fresh_of}
@@ -90,7 +91,7 @@ module _ (P : ErrorRecord → ErrorRecord) (one : OneToOne P) where
         → before_entry absent d' t short n ≡ before_entry absent d t short n
     before_same absent short n =
         λ i. admit (reading_same P d d' D t i) (shorter_same P d d' D i) short
-        (admit_entry (entry_same n i) absent (cond (expired_same P d d' D t n i) (Ended R.Expired) Done))
+        (admit_entry (entry_same n i) absent (cond (expired_same P d d' D t n i) (Err (Ended R.Expired)) (Ok tt)))
 
     acted_both : (n : ℕ) (o o' : Outcome) → Both P c o o' → Carries (endpoint_at d n) o.writes
         → ExchangedResult P c (acted_of o t n d) (acted_of o' t n d')
@@ -139,7 +140,7 @@ module _ (P : ErrorRecord → ErrorRecord) (one : OneToOne P) where
         let v = shown_same shown_of (λ x e. refl) n in
         let q : before_show d' t (is_short room) n ≡ a =
         λ i. admit (reading_same P d d' D t i) (shorter_same P d d' D i) (is_short room)
-        (admit_entry (entry_same n i) R.Entry Done) in
+        (admit_entry (entry_same n i) R.Entry (Ok tt)) in
         subst (λ (z : Answer). ExchangedResult P c (show_in d t room n)
         (cond (is_done z) (shown_in y' t n d') (refused_of z t n d'))) (sym q)
         (by_test (is_done a)
@@ -185,10 +186,10 @@ module _ (P : ErrorRecord → ErrorRecord) (one : OneToOne P) where
   module _ (d d' : Lent) (D : ExchangedLent P d d') (t room : ℕ) where
     reading_both : (s : List ℕ) (r : Reading) → reading_of s ≡ r → is_record_in s r ≡ false
         → ExchangedResult P (deliver s) (by_reading d t room s r) (by_reading d' t room s r)
-    reading_both s (Refused fault) e n = refused_by d d' D t (deliver s) (is_short room) (Dropped (reason_of fault)) 0
-    reading_both s (Frame f from to) e n =
-        frame_both d d' D t (deliver s) room f (slice from to s) (slice from to s)
-        (plain_bodies f (slice from to s) n) (λ q. ap is_read_reply e ∙ q)
+    reading_both s (Err fault) e n = refused_by d d' D t (deliver s) (is_short room) (Err (Dropped (reason_of fault))) 0
+    reading_both s (Ok read) e n =
+        frame_both d d' D t (deliver s) room read.fields (slice read.start read.end s) (slice read.start read.end s)
+        (plain_bodies read.fields (slice read.start read.end s) n) (λ q. ap is_read_reply e ∙ q)
 
     -- a frame is not nothing
     arrives : (d : Lent) (f : Fields) (b : List ℕ) → Readable f b
@@ -217,7 +218,7 @@ module _ (P : ErrorRecord → ErrorRecord) (one : OneToOne P) where
         (record { carried = λ z. p; plain = λ z. absurd (true≢false (sym k ∙ z)) })
         (λ z. ap is_read_reply q.0 ∙ z))
     deliver_both (ExchangedFrame.other s n) =
-        by_test d d' D t (deliver s) (eqb (length s) 0) (refused_by d d' D t (deliver s) (is_short room) Done 0)
+        by_test d d' D t (deliver s) (eqb (length s) 0) (refused_by d d' D t (deliver s) (is_short room) (Ok tt) 0)
         (reading_both s (reading_of s) refl n)
 
     -- ---- every call

@@ -2,6 +2,9 @@
 -- but for valid records' dates and details, exchanged one to one throughout, counts kept and check words to match, show
 -- the same values."
 use Rattle.std.specs.Prelude.{◌≡◌, Bool, true, false, ◌&&◌, ◌||◌, not, List, [], ◌∷◌, ℕ, length}
+use Rattle.std.specs.Prelude.{Err, Ok}
+use Rattle.frame.specs.Reading.{Reading}
+use Rattle.frame.specs.Reading.{frame_with}
 use Rattle.std.proofs.Math.Seq.{slice}
 use Rattle.errors.specs.declared.ErrorRecord.{ErrorRecord}
 use Rattle.errors.specs.Reading.{is_record}
@@ -9,8 +12,6 @@ use Rattle.errors.specs.Writing.{is_valid, bytes_of}
 use Rattle.errors.specs.RoundTrip.{Typed}
 use Rattle.frame.specs.declared.Command.TheVariants as K
 use Rattle.frame.specs.declared.Fields.{Fields}
-use Rattle.frame.specs.declared.Reading.{Reading}
-use Rattle.frame.specs.declared.Reading.TheVariants.{Frame, Refused}
 use Rattle.frame.specs.Control.{is}
 use Rattle.frame.specs.Reading.{reading_of}
 use Rattle.frame.specs.Writing.{frame_bytes}
@@ -50,13 +51,13 @@ carries_record f = is f.command K.WriteErrorInfo || (is f.command K.ReadErrorInf
 
 -- bytes that are such a frame, with a record in it
 abbrev pub is_record_in : List ℕ → Reading → Bool
-is_record_in s (Frame f from to) = carries_record f && is_record (slice from to s)
-is_record_in s (Refused fault) = false
+is_record_in s (Ok read) = carries_record read.fields && is_record (slice read.start read.end s)
+is_record_in s (Err fault) = false
 
 -- a master's deliver hands the station's record to its user: the reply to S-ReadErrorInfo
 abbrev pub is_read_reply : Reading → Bool
-is_read_reply (Frame f from to) = is f.command K.ReadErrorInfo && f.ack
-is_read_reply (Refused fault) = false
+is_read_reply (Ok read) = is read.fields.command K.ReadErrorInfo && read.fields.ack
+is_read_reply (Err fault) = false
 
 abbrev pub reads_record : Call → Bool
 reads_record (act a n) = false

@@ -1,3 +1,2 @@
--- The inverse of records and endpoints, and the states by their numbers.
+-- The inverse of records and endpoints.
 pub mod Records
-pub mod States

@@ -1,26 +1,21 @@
 -- The record of an endpoint is that endpoint's.
 use mathlib.Core.Path.{◌≡◌, refl, sym}
-use mathlib.Core.Bool.{Bool, true, false, not, cond, true≢false}
+use Rattle.std.specs.Prelude.{None, Option, Some, is_some, unwrap_or}
+use Rattle.std.specs.Bool.{then_some}
+use mathlib.Core.Bool.{Bool, true, false, cond, true≢false}
 use mathlib.Core.List.{List}
 use Prim.Native.Nat.{ℕ}
-use Rattle.frame.specs.declared.Subconnection.{Subconnection}
-use Rattle.frame.specs.declared.Subconnection.TheVariants.{Absent, Number}
-use Rattle.frame.specs.Control.{subconnection_of, is_absent}
+use Rattle.frame.specs.Control.{subconnection_of}
 use Rattle.endpoint.specs.declared.State.{State}
 use Rattle.endpoint.specs.declared.State.TheVariants.{Close, Starting, EstablishPending, Establish, ParamVerify}
 use Rattle.endpoint.specs.declared.State.TheVariants.{FuncRunning, RefreshPending, Refresh, Terminate}
 use Rattle.endpoint.specs.declared.State.TheVariants.{TerminateMore}
-use Rattle.endpoint.specs.declared.Timestamp.{Timestamp}
-use Rattle.endpoint.specs.declared.Timestamp.TheVariants.{Never, At}
-use Rattle.endpoint.specs.declared.Pending.{Pending}
-use Rattle.endpoint.specs.declared.Pending.TheVariants.{Nothing, Asked}
 use Rattle.endpoint.specs.declared.Queue.{Queue}
 use Rattle.endpoint.specs.declared.Queue.TheVariants.{Empty, InvokeFunc, ReadErrorInfo, WriteErrorInfo, Closed}
 use Rattle.endpoint.specs.Endpoint.{Endpoint, no_bytes}
 use Rattle.endpoint.specs.Table.{row_of}
 use Rattle.endpoint.specs.Time.{Tidy}
-use Rattle.records.specs.Records.{is_set, flag_of, state_from, timestamp_from, is_at, time_in, pending_from, is_asked}
-use Rattle.records.specs.Records.{asked_in, queue_from, queue_number, session_in, endpoint_of, record_of, RecordTheorem}
+use Rattle.records.specs.Records.{is_set, flag_of, state_from, queue_from, queue_number, session_in, endpoint_of, record_of, RecordTheorem}
 
 pub flag_back : (b : Bool) → is_set (flag_of b) ≡ b
 flag_back true = refl
@@ -38,13 +33,9 @@ state_back Refresh = refl
 state_back Terminate = refl
 state_back TerminateMore = refl
 
-timestamp_back : (x : Timestamp) → timestamp_from (is_set (flag_of (is_at x))) (time_in x) ≡ x
-timestamp_back Never = refl
-timestamp_back (At t) = refl
-
-pending_back : (x : Pending) → pending_from (is_set (flag_of (is_asked x))) (asked_in x) ≡ x
-pending_back Nothing = refl
-pending_back (Asked t) = refl
+time_back : (x : Option ℕ) → then_some (is_set (flag_of (is_some x))) (unwrap_or x 0) ≡ x
+time_back None = refl
+time_back (Some t) = refl
 
 queue_back : (q : Queue) → queue_from (queue_number q) ≡ q
 queue_back Empty = refl
@@ -53,9 +44,9 @@ queue_back ReadErrorInfo = refl
 queue_back WriteErrorInfo = refl
 queue_back Closed = refl
 
-session_back : (x : Subconnection) → subconnection_of (is_set (flag_of (not (is_absent x)))) (session_in x) ≡ x
-session_back Absent = refl
-session_back (Number n) = refl
+session_back : (x : Option ℕ) → subconnection_of (is_set (flag_of (is_some x))) (session_in x) ≡ x
+session_back None = refl
+session_back (Some n) = refl
 
 bytes_back : (taken : Bool) (bytes : List ℕ) → (taken ≡ false → bytes ≡ no_bytes)
     → cond (is_set (flag_of taken)) bytes no_bytes ≡ bytes
@@ -69,9 +60,9 @@ back e tidy =
       flag_back e.settings.slave,
       state_back e.state,
       session_back e.session,
-      timestamp_back e.timestamps.sent,
-      timestamp_back e.timestamps.accepted,
-      pending_back e.setup.pending,
+      time_back e.timestamps.sent,
+      time_back e.timestamps.accepted,
+      time_back e.setup.pending,
       queue_back e.setup.queue,
       flag_back e.setup.invoked,
       flag_back e.station.notready,

@@ -1,17 +1,14 @@
 -- A record is an endpoint in numbers and bytes: every record is an endpoint's, whatever it holds, and every endpoint has
 -- its record.
-use Rattle.std.specs.Prelude.{◌≡◌, Bool, true, false, not, cond, List, ℕ, eqb}
-use Rattle.frame.specs.declared.Subconnection.{Subconnection}
-use Rattle.frame.specs.declared.Subconnection.TheVariants.{Absent, Number}
-use Rattle.frame.specs.Control.{subconnection_of, is_absent}
+use Rattle.std.specs.Prelude.{◌≡◌, Bool, not, cond, List, ℕ, eqb}
+use Rattle.std.specs.Prelude.{Option, is_some, unwrap_or}
+use Rattle.std.specs.Bool.{then_some}
+use Rattle.std.specs.Int.{from_bool}
+use Rattle.frame.specs.Control.{subconnection_of}
 use Rattle.endpoint.specs.declared.State.{State}
 use Rattle.endpoint.specs.declared.State.TheVariants.{Close, Starting, EstablishPending, Establish, ParamVerify}
 use Rattle.endpoint.specs.declared.State.TheVariants.{FuncRunning, RefreshPending, Refresh, Terminate}
 use Rattle.endpoint.specs.declared.State.TheVariants.{TerminateMore}
-use Rattle.endpoint.specs.declared.Timestamp.{Timestamp}
-use Rattle.endpoint.specs.declared.Timestamp.TheVariants.{Never, At}
-use Rattle.endpoint.specs.declared.Pending.{Pending}
-use Rattle.endpoint.specs.declared.Pending.TheVariants.{Nothing, Asked}
 use Rattle.endpoint.specs.declared.Queue.{Queue}
 use Rattle.endpoint.specs.declared.Queue.TheVariants.{Empty, InvokeFunc, ReadErrorInfo, WriteErrorInfo, Closed}
 use Rattle.endpoint.specs.Endpoint.{Endpoint, no_bytes, no_record, words_of, value_of}
@@ -25,7 +22,7 @@ abbrev pub is_set : ℕ → Bool
 is_set x = not (eqb x 0)
 
 abbrev pub flag_of : Bool → ℕ
-flag_of b = cond b 1 0
+flag_of b = from_bool b
 
 -- past the ten states a number is Terminate's
 abbrev pub state_from : ℕ → State
@@ -40,29 +37,23 @@ state_from x =
     (cond (eqb x 7) Refresh
     (cond (eqb x 9) TerminateMore Terminate))))))))
 
-abbrev pub timestamp_from : Bool → ℕ → Timestamp
-timestamp_from true t = At t
-timestamp_from false t = Never
+abbrev pub timestamp_from : Bool → ℕ → Option ℕ
+timestamp_from has t = then_some has t
 
-abbrev pub is_at : Timestamp → Bool
-is_at Never = false
-is_at (At t) = true
+abbrev pub is_at : Option ℕ → Bool
+is_at x = is_some x
 
-abbrev pub time_in : Timestamp → ℕ
-time_in Never = 0
-time_in (At t) = t
+abbrev pub time_in : Option ℕ → ℕ
+time_in x = unwrap_or x 0
 
-abbrev pub pending_from : Bool → ℕ → Pending
-pending_from true t = Asked t
-pending_from false t = Nothing
+abbrev pub pending_from : Bool → ℕ → Option ℕ
+pending_from has t = then_some has t
 
-abbrev pub is_asked : Pending → Bool
-is_asked Nothing = false
-is_asked (Asked t) = true
+abbrev pub is_asked : Option ℕ → Bool
+is_asked x = is_some x
 
-abbrev pub asked_in : Pending → ℕ
-asked_in Nothing = 0
-asked_in (Asked t) = t
+abbrev pub asked_in : Option ℕ → ℕ
+asked_in x = unwrap_or x 0
 
 -- past the five a number is Closed's
 abbrev pub queue_from : ℕ → Queue
@@ -79,9 +70,8 @@ queue_number ReadErrorInfo = 2
 queue_number WriteErrorInfo = 3
 queue_number Closed = 4
 
-abbrev pub session_in : Subconnection → ℕ
-session_in Absent = 0
-session_in (Number n) = n
+abbrev pub session_in : Option ℕ → ℕ
+session_in x = unwrap_or x 0
 
 -- ---- a record and its endpoint
 -- the endpoint that is stored, with the bytes of its value, of its words and of its error record
@@ -164,7 +154,7 @@ stored_of e = record {
   taken = flag_of e.value.taken;
   valueage = e.value.age;
   session = session_in e.session;
-  hassession = flag_of (not (is_absent e.session));
+  hassession = flag_of (is_some e.session);
   answered = flag_of e.measurement.answered;
   sequence = flag_of e.measurement.sequence;
   reference = e.measurement.reference;

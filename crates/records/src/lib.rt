@@ -4,29 +4,19 @@
 
 ghost use Rattle.std.specs.Prelude.{◌≡◌, cond, eqb};
 ghost use Rattle.endpoint.specs.Endpoint.{bare, core_of};
-ghost use Rattle.frame.specs.declared.Command.TheVariants as K;
-ghost use Rattle.frame.specs.Control.{is};
-ghost use Rattle.endpoint.specs.Table.{row_of, request_of};
 ghost use Rattle.endpoint.specs.Time.{is_outdated, is_expired};
-ghost use Rattle.records.specs.Records.{is_set, flag_of, state_from, timestamp_from, is_at, time_in, pending_from, is_asked};
-ghost use Rattle.records.specs.Records.{asked_in, queue_from, queue_number, session_in, bare_of, stored_of};
+ghost use Rattle.records.specs.Records.{state_from, queue_from, bare_of, stored_of};
 ghost use Rattle.records.specs.Records.{ended_stored, ticked_stored};
 
-use endpoint::due::passed;
-use endpoint::{
-    Core, Measurement, Pending, Queue, Settings, Setup, State, Station, Timestamp, Timestamps,
-};
-use frame::Subconnection;
-use frame::control::{is_absent, subconnection_of};
-
-// A slave's ts_offset serves for so many ticks.
-const OFFSET_LIFE: u64 = 30000;
+use endpoint::time::OFFSET_LIFE;
+use endpoint::{Core, Measurement, Queue, Settings, Setup, State, Station, Timestamps};
 
 // All that a connection keeps, but for the bytes of its value, of its words and of its error record. A flag is 0, or
 // set; a timestamp and the session number count where their flags are set. What a call looks at in every record of the
-// table stands first: the timer, the measurement of the clocks and the CID.
+// table stands first: the timer, the measurement of the clocks and the CID. The C interface has flags beside their values,
+// numbers for states and queues, and counts beside the bytes of a record.
 #[repr(C)]
-#[derive(Clone, Copy)]
+#[derive(Clone, Copy, Debug, PartialEq, Eq)]
 pub struct Stored {
     // the clock reading where the timer starts
     pub since: u64,
@@ -84,7 +74,7 @@ pub struct Stored {
 }
 
 #[repr(C)]
-#[derive(Clone, Copy)]
+#[derive(Clone, Copy, Debug, PartialEq, Eq)]
 pub struct Record {
     pub stored: Stored,
     // a value that was taken, with zeros after it; else the fail-safe value
@@ -95,18 +85,119 @@ pub struct Record {
     pub errorinfo: [u8; 56],
 }
 
-pub fn is_set(x: u8) -> bool
-    ensures { result ≡ is_set x }
-{
-    x != 0
+// The numbers of states and of a queue that calls look at.
+const CLOSE: u8 = State::Close as u8;
+
+const REFRESH: u8 = State::Refresh as u8;
+
+const TERMINATE: u8 = State::Terminate as u8;
+
+const EMPTY: u8 = Queue::Empty as u8;
+
+impl Stored {
+    // A master's settings of seven zero words, in Close.
+    pub const BLANK: Stored = Stored {
+        since: 0,
+        reference: 0,
+        interval: 0,
+        roundtrip: 0,
+        connection: 0,
+        state: CLOSE,
+        slave: 0,
+        hasasked: 0,
+        answered: 0,
+        asked: 0,
+        measured: 0,
+        age: 0,
+        station: 0,
+        masterwords: 0,
+        slavewords: 0,
+        hassent: 0,
+        hasaccepted: 0,
+        requests: 0,
+        queue: EMPTY,
+        invoked: 0,
+        notready: 0,
+        sent: 0,
+        accepted: 0,
+        offset: 0,
+        valueage: 0,
+        session: 0,
+        hassession: 0,
+        sequence: 0,
+        words: 0,
+        errorinfo: 0,
+        taken: 0,
+    };
+
+    // What an end leaves.
+    pub fn ended(self) -> Stored
+        ensures { result ≡ ended_stored self }
+    {
+        Stored {
+            state: TERMINATE,
+            queue: EMPTY,
+            taken: 0,
+            valueage: 0,
+            ..self
+        }
+    }
+
+    // ---- what a call asks of every record of the table: little code, so that the compiler keeps it within the call, and
+    // by its numbers, since Core's methods would make a core of every record (speed: docs/DECISIONS.md)
+
+    // The ticks of its timer: I in Refresh, else R.
+    fn timer(self) -> u32
+        ensures { result ≡ cond (eqb self.state 7) self.interval self.roundtrip }
+    {
+        if self.state == REFRESH {
+            self.interval
+        } else {
+            self.roundtrip
+        }
+    }
+
+    // Whether a slave's ts_offset is too old.
+    fn is_outdated(self, clock: u64) -> bool
+        ensures { result ≡ is_outdated (bare_of self) clock }
+    {
+        self.state == REFRESH
+            && self.reference < clock.saturating_sub(OFFSET_LIFE)
+            && self.slave != 0
+    }
+
+    // Whether a clock reading ends the connection.
+    pub fn is_over(self, clock: u64) -> bool
+        ensures { result ≡ is_expired (bare_of self) clock }
+    {
+        self.state != CLOSE
+            && self.state <= REFRESH
+            && (self.is_outdated(clock)
+                || u64::from(self.timer()) < clock.saturating_sub(self.since))
+    }
+
+    // The clock step: ended, or as it was.
+    pub fn ticked(self, clock: u64) -> Stored
+        ensures { result ≡ ticked_stored self clock }
+    {
+        if self.is_over(clock) {
+            return self.ended();
+        }
+        self
+    }
 }
 
-pub fn flag_of(b: bool) -> u8
-    ensures { result ≡ flag_of b }
-{
-    if b { 1 } else { 0 }
+impl Record {
+    // A blank one, with the fail-safe value and nothing handed over.
+    pub const BLANK: Record = Record {
+        stored: Stored::BLANK,
+        value: [0; 100],
+        words: [0; 100],
+        errorinfo: [0; 56],
+    };
 }
 
+// From<u8> for State and Queue is refused here, and endpoint knows no record's numbers.
 fn state_from(x: u8) -> State
     ensures { result ≡ state_from x }
 {
@@ -124,77 +215,6 @@ fn state_from(x: u8) -> State
     }
 }
 
-fn state_number(s: State) -> u8
-    ensures { result ≡ row_of s }
-{
-    match s {
-        State::Close => 0,
-        State::Starting => 1,
-        State::EstablishPending => 2,
-        State::Establish => 3,
-        State::ParamVerify => 4,
-        State::FuncRunning => 5,
-        State::RefreshPending => 6,
-        State::Refresh => 7,
-        State::Terminate => 8,
-        State::TerminateMore => 9,
-    }
-}
-
-fn timestamp_from(has: bool, t: u64) -> Timestamp
-    ensures { result ≡ timestamp_from has t }
-{
-    if has {
-        return Timestamp::At(t);
-    }
-    Timestamp::Never
-}
-
-fn is_at(x: Timestamp) -> bool
-    ensures { result ≡ is_at x }
-{
-    match x {
-        Timestamp::Never => false,
-        Timestamp::At(_) => true,
-    }
-}
-
-fn time_in(x: Timestamp) -> u64
-    ensures { result ≡ time_in x }
-{
-    match x {
-        Timestamp::Never => 0,
-        Timestamp::At(t) => t,
-    }
-}
-
-fn pending_from(has: bool, t: u64) -> Pending
-    ensures { result ≡ pending_from has t }
-{
-    if has {
-        return Pending::Asked(t);
-    }
-    Pending::Nothing
-}
-
-fn is_asked(x: Pending) -> bool
-    ensures { result ≡ is_asked x }
-{
-    match x {
-        Pending::Nothing => false,
-        Pending::Asked(_) => true,
-    }
-}
-
-fn asked_in(x: Pending) -> u64
-    ensures { result ≡ asked_in x }
-{
-    match x {
-        Pending::Nothing => 0,
-        Pending::Asked(t) => t,
-    }
-}
-
 fn queue_from(x: u8) -> Queue
     ensures { result ≡ queue_from x }
 {
@@ -207,183 +227,90 @@ fn queue_from(x: u8) -> Queue
     }
 }
 
-fn queue_number(q: Queue) -> u8
-    ensures { result ≡ queue_number q }
-{
-    match q {
-        Queue::Empty => 0,
-        Queue::InvokeFunc => 1,
-        Queue::ReadErrorInfo => 2,
-        Queue::WriteErrorInfo => 3,
-        Queue::Closed => 4,
-    }
-}
-
-fn session_in(x: Subconnection) -> u16
-    ensures { result ≡ session_in x }
-{
-    match x {
-        Subconnection::Absent => 0,
-        Subconnection::Number(n) => n,
-    }
-}
-
 // The core of the endpoint that is stored.
-pub fn core_of(s: Stored) -> Core
-    ensures { result ≡ core_of (bare_of s) }
-{
-    Core {
-        settings: Settings {
-            connection: s.connection,
-            slave: s.slave != 0,
-            masterwords: s.masterwords,
-            slavewords: s.slavewords,
-            interval: s.interval,
-            roundtrip: s.roundtrip,
-            age: s.age,
-            station: s.station,
-        },
-        state: state_from(s.state),
-        session: subconnection_of(s.hassession != 0, s.session),
-        since: s.since,
-        timestamps: Timestamps {
-            sent: timestamp_from(s.hassent != 0, s.sent),
-            accepted: timestamp_from(s.hasaccepted != 0, s.accepted),
-        },
-        setup: Setup {
-            pending: pending_from(s.hasasked != 0, s.asked),
-            measured: s.measured,
-            offset: s.offset,
-            requests: s.requests,
-            queue: queue_from(s.queue),
-            invoked: s.invoked != 0,
-        },
-        measurement: Measurement {
-            answered: s.answered != 0,
-            sequence: s.sequence != 0,
-            reference: s.reference,
-        },
-        station: Station {
-            notready: s.notready != 0,
-        },
-        words: s.words,
-        errorinfo: s.errorinfo,
-        taken: s.taken != 0,
-        valueage: s.valueage,
+impl From<Stored> for Core {
+    ghost from_gives = { λ s r. r ≡ core_of (bare_of s) };
+
+    fn from(s: Stored) -> Core {
+        Core {
+            settings: Settings {
+                connection: s.connection,
+                slave: s.slave != 0,
+                masterwords: s.masterwords,
+                slavewords: s.slavewords,
+                interval: s.interval,
+                roundtrip: s.roundtrip,
+                age: s.age,
+                station: s.station,
+            },
+            state: state_from(s.state),
+            session: (s.hassession != 0).then_some(s.session),
+            since: s.since,
+            timestamps: Timestamps {
+                sent: (s.hassent != 0).then_some(s.sent),
+                accepted: (s.hasaccepted != 0).then_some(s.accepted),
+            },
+            setup: Setup {
+                pending: (s.hasasked != 0).then_some(s.asked),
+                measured: s.measured,
+                offset: s.offset,
+                requests: s.requests,
+                queue: queue_from(s.queue),
+                invoked: s.invoked != 0,
+            },
+            measurement: Measurement {
+                answered: s.answered != 0,
+                sequence: s.sequence != 0,
+                reference: s.reference,
+            },
+            station: Station {
+                notready: s.notready != 0,
+            },
+            words: s.words,
+            errorinfo: s.errorinfo,
+            taken: s.taken != 0,
+            valueage: s.valueage,
+        }
     }
 }
 
 // What is stored of an endpoint with this core.
-pub fn stored_of(e: Core) -> Stored
-    ensures { result ≡ stored_of (bare e) }
-{
-    let state = e.state;
-    let session = e.session;
-    let timestamps = e.timestamps;
-    let sent = timestamps.sent;
-    let accepted = timestamps.accepted;
-    let setup = e.setup;
-    let pending = setup.pending;
-    let queue = setup.queue;
-    Stored {
-        since: e.since,
-        sent: time_in(sent),
-        accepted: time_in(accepted),
-        asked: asked_in(pending),
-        measured: setup.measured,
-        offset: setup.offset,
-        connection: e.settings.connection,
-        interval: e.settings.interval,
-        roundtrip: e.settings.roundtrip,
-        age: e.settings.age,
-        station: e.settings.station,
-        state: state_number(state),
-        slave: flag_of(e.settings.slave),
-        masterwords: e.settings.masterwords,
-        slavewords: e.settings.slavewords,
-        hassent: flag_of(is_at(sent)),
-        hasaccepted: flag_of(is_at(accepted)),
-        hasasked: flag_of(is_asked(pending)),
-        requests: setup.requests,
-        queue: queue_number(queue),
-        invoked: flag_of(setup.invoked),
-        notready: flag_of(e.station.notready),
-        words: e.words,
-        errorinfo: e.errorinfo,
-        taken: flag_of(e.taken),
-        valueage: e.valueage,
-        session: session_in(session),
-        hassession: flag_of(!is_absent(session)),
-        answered: flag_of(e.measurement.answered),
-        sequence: flag_of(e.measurement.sequence),
-        reference: e.measurement.reference,
-    }
-}
+impl From<Core> for Stored {
+    ghost from_gives = { λ e r. r ≡ stored_of (bare e) };
 
-// What an end leaves, by its numbers.
-pub fn ended(s: Stored) -> Stored
-    ensures { result ≡ ended_stored s }
-{
-    let mut next = s;
-    next.state = 8;
-    next.queue = 0;
-    next.taken = 0;
-    next.valueage = 0;
-    next
-}
-
-// ---- what a call asks of every record of the table: little code, so that the compiler keeps it within the call
-
-// The ticks of its timer: I in Refresh, else R.
-fn timer_of(s: Stored) -> u32
-    ensures { result ≡ cond (eqb s.state 7) s.interval s.roundtrip }
-{
-    if s.state == 7 {
-        s.interval
-    } else {
-        s.roundtrip
+    fn from(e: Core) -> Stored {
+        Stored {
+            since: e.since,
+            reference: e.measurement.reference,
+            interval: e.settings.interval,
+            roundtrip: e.settings.roundtrip,
+            connection: e.settings.connection,
+            state: e.state as u8,
+            slave: u8::from(e.settings.slave),
+            hasasked: u8::from(e.setup.pending.is_some()),
+            answered: u8::from(e.measurement.answered),
+            asked: e.setup.pending.unwrap_or(0),
+            measured: e.setup.measured,
+            age: e.settings.age,
+            station: e.settings.station,
+            masterwords: e.settings.masterwords,
+            slavewords: e.settings.slavewords,
+            hassent: u8::from(e.timestamps.sent.is_some()),
+            hasaccepted: u8::from(e.timestamps.accepted.is_some()),
+            requests: e.setup.requests,
+            queue: e.setup.queue as u8,
+            invoked: u8::from(e.setup.invoked),
+            notready: u8::from(e.station.notready),
+            sent: e.timestamps.sent.unwrap_or(0),
+            accepted: e.timestamps.accepted.unwrap_or(0),
+            offset: e.setup.offset,
+            valueage: e.valueage,
+            session: e.session.unwrap_or(0),
+            hassession: u8::from(e.session.is_some()),
+            sequence: u8::from(e.measurement.sequence),
+            words: e.words,
+            errorinfo: e.errorinfo,
+            taken: u8::from(e.taken),
+        }
     }
-}
-
-// Whether a slave's ts_offset is too old.
-fn is_outdated(s: Stored, clock: u64) -> bool
-    ensures { result ≡ is_outdated (bare_of s) clock }
-{
-    if s.state != 7 {
-        return false;
-    }
-    if passed(clock, OFFSET_LIFE) <= s.reference {
-        return false;
-    }
-    s.slave != 0
-}
-
-// Whether a clock reading ends the connection, by its numbers: every call asks it of every record.
-pub fn is_over(s: Stored, clock: u64) -> bool
-    ensures { result ≡ is_expired (bare_of s) clock }
-{
-    if (s.state == 0) | (7 < s.state) {
-        return false;
-    }
-    if is_outdated(s, clock) {
-        return true;
-    }
-    (timer_of(s) as u64) < passed(clock, s.since)
-}
-
-// The clock step, by its numbers: ended, or as it was.
-pub fn ticked(s: Stored, clock: u64) -> Stored
-    ensures { result ≡ ticked_stored s clock }
-{
-    if is_over(s, clock) {
-        return ended(s);
-    }
-    s
-}
-
-// Whether S-RefreshReady is due, by its numbers: in ParamVerify and FuncRunning.
-pub fn is_readying(s: Stored) -> bool
-    ensures { result ≡ is (request_of (state_from s.state)) K.RefreshReady }
-{
-    (s.state == 4) | (s.state == 5)
 }

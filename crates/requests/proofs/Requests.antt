@@ -10,7 +10,7 @@ use borrow.Author.Tests.{ltb-true, eqb-true, eqb-false}
 use Rattle.frame.specs.Reading.{reading_of}
 use Rattle.frame.proofs.ReadBack.{round_trip}
 use Rattle.endpoint.specs.Endpoint.{Endpoint}
-use Rattle.endpoint.specs.declared.Answer.{Answer}
+use Rattle.endpoint.specs.Answers.{Answer}
 use Rattle.endpoint.specs.Answers.{is_done}
 use Rattle.endpoint.specs.declared.State.{State}
 use Rattle.endpoint.specs.Table.{is_setup}

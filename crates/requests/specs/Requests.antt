@@ -1,8 +1,9 @@
 -- One gateway over a list of calls, loading among them (document 02, note 3): the count of setup requests that a
 -- connection keeps is the count of those that it wrote since its last start or loading, and at most 45.
 use Rattle.std.specs.Prelude.{◌≡◌, Bool, true, false, ◌&&◌, cond, List, [], ◌∷◌, ℕ, suc, ◌≤◌, eqb}
-use Rattle.frame.specs.declared.Reading.{Reading}
-use Rattle.frame.specs.declared.Reading.TheVariants.{Frame, Refused}
+use Rattle.std.specs.Prelude.{Err, Ok}
+use Rattle.frame.specs.Reading.{Reading}
+use Rattle.frame.specs.Reading.{frame_with}
 use Rattle.frame.specs.Reading.{reading_of}
 use Rattle.endpoint.specs.Answers.{is_done}
 use Rattle.endpoint.specs.Due.{request_limit}
@@ -19,8 +20,8 @@ use Rattle.runs.specs.Bus.{on_bus}
 -- ---- the count as the answers and the bytes on the bus tell it
 -- bytes that the reader takes for a request, a queued command among them: S-Disconnect is none, nor is a reply
 abbrev pub is_request_in : Reading → Bool
-is_request_in (Frame f from to) = is_request f
-is_request_in (Refused fault) = false
+is_request_in (Ok read) = is_request read.fields
+is_request_in (Err fault) = false
 
 abbrev pub is_start_of : ℕ → Call → Bool
 is_start_of n (act a k) = begins a && eqb k n

@@ -1,6 +1,7 @@
 -- A call that does not reach an endpoint takes the clock step on it, and that is all: in a run of two endpoints some
 -- refused call does the same.
 use mathlib.Core.Path.{◌≡◌, refl, sym, ap, ◌∙◌}
+use Rattle.std.specs.Prelude.{Err, Ok}
 use mathlib.Core.Bool.{Bool, true, false, ◌&&◌, not, cond}
 use Prim.Native.Nat.{ℕ}
 use lib.Dec.{eqb}
@@ -9,8 +10,8 @@ use Rattle.endpoint.specs.declared.State.{State}
 use Rattle.endpoint.specs.declared.State.TheVariants.{Close, Terminate, TerminateMore}
 use Rattle.endpoint.specs.Endpoint.{Endpoint}
 use Rattle.endpoint.specs.declared.Reason.TheVariants as R
-use Rattle.endpoint.specs.declared.Answer.{Answer}
-use Rattle.endpoint.specs.declared.Answer.TheVariants.{Done, Dropped, Ended}
+use Rattle.endpoint.specs.Answers.{Answer}
+use Rattle.endpoint.specs.declared.Refusal.TheVariants.{Dropped, Ended}
 use Rattle.endpoint.specs.Answers.{is_done}
 use Rattle.endpoint.specs.Table.{row_of, is_state, is_terminated}
 use Rattle.endpoint.specs.Time.{is_expired, ended_of, after_tick}
@@ -30,7 +31,7 @@ pub record Idle (e : Endpoint) (t : ℕ) : Type 0 where
 
 -- what a call comes to where the timer has expired, and where it has not
 pub call_expired : (e : Endpoint) (t : ℕ) (k : Call) → is_expired e t ≡ true
-    → call_of e t k ≡ outcome (Ended R.Expired) (ended_of e) nothing
+    → call_of e t k ≡ outcome (Err (Ended R.Expired)) (ended_of e) nothing
 call_expired e t k h = cond_true (is_expired e t) _ (step_of e t k) h
 
 pub call_timely : (e : Endpoint) (t : ℕ) (k : Call) → is_expired e t ≡ false → call_of e t k ≡ step_of e t k
@@ -51,8 +52,8 @@ not_closed s h =
     apart n x y = ap (λ (m : ℕ). eqb m (row_of Close)) (eqb-true (row_of s) n x) ∙ y
 
 start_refused : (e : Endpoint) (t : ℕ) (m b : Bool) → b ≡ false
-    → cond (m && b) (outcome Done (started_of e t) nothing) (dropped e (Dropped R.Turn)) ≡ dropped e (Dropped R.Turn)
-start_refused e t true b h = cond_false b _ (dropped e (Dropped R.Turn)) h
+    → cond (m && b) (outcome (Ok tt) (started_of e t) nothing) (dropped e (Err (Dropped R.Turn))) ≡ dropped e (Err (Dropped R.Turn))
+start_refused e t true b h = cond_false b _ (dropped e (Err (Dropped R.Turn))) h
 start_refused e t false b h = refl
 
 pub idle_at : (e : Endpoint) (t : ℕ) → Idle e t
@@ -60,26 +61,26 @@ idle_at e t =
     bcase (is_expired e t)
     (λ x. record {
       by = restart 0;
-      answer = Ended R.Expired;
+      answer = Err (Ended R.Expired);
       refused = refl;
       comes = call_expired e t (act (restart 0)) x
-          ∙ ap (λ (y : Endpoint). outcome (Ended R.Expired) y nothing) (sym (tick_expired e t x));
+          ∙ ap (λ (y : Endpoint). outcome (Err (Ended R.Expired)) y nothing) (sym (tick_expired e t x));
     })
     (λ x. bcase (is_terminated e.state)
     (λ s. record {
       by = start;
-      answer = Dropped R.Turn;
+      answer = Err (Dropped R.Turn);
       refused = refl;
       comes = call_timely e t (act start) x
           ∙ start_refused e t (not e.settings.slave) (is_state e.state Close) (not_closed e.state s)
-          ∙ ap (λ (y : Endpoint). dropped y (Dropped R.Turn)) (sym (tick_timely e t x));
+          ∙ ap (λ (y : Endpoint). dropped y (Err (Dropped R.Turn))) (sym (tick_timely e t x));
     })
     (λ s. record {
       by = restart 0;
-      answer = Dropped R.Turn;
+      answer = Err (Dropped R.Turn);
       refused = refl;
       comes = call_timely e t (act (restart 0)) x
-          ∙ cond_false (is_terminated e.state) (outcome Done (restarted_of e 0) nothing)
-          (dropped e (Dropped R.Turn)) s
-          ∙ ap (λ (y : Endpoint). dropped y (Dropped R.Turn)) (sym (tick_timely e t x));
+          ∙ cond_false (is_terminated e.state) (outcome (Ok tt) (restarted_of e 0) nothing)
+          (dropped e (Err (Dropped R.Turn))) s
+          ∙ ap (λ (y : Endpoint). dropped y (Err (Dropped R.Turn))) (sym (tick_timely e t x));
     }))

@@ -1,5 +1,6 @@
 -- What a gateway just loaded holds: settings in their ranges, each connection in Close, no CID twice.
 use mathlib.Core.Path.{◌≡◌, refl, sym, ap, subst, ◌∙◌}
+use Rattle.std.specs.Prelude.{Err, Ok}
 use mathlib.Core.Bool.{true, false, ◌&&◌, not, false≢true}
 use mathlib.Core.List.{List}
 use Prim.Native.Nat.{ℕ, zero, suc, ◌/◌, ◌%◌, ◌≤◌, ◌<◌}
@@ -13,8 +14,8 @@ use mathlib.Mathlib.Data.Bool.Basic.{and_elim_left as and_left, and_elim_right a
 use Rattle.endpoint.specs.declared.Settings.{Settings}
 use Rattle.endpoint.specs.Endpoint.{Endpoint}
 use Rattle.endpoint.specs.declared.Reason.TheVariants as R
-use Rattle.endpoint.specs.declared.Answer.{Answer}
-use Rattle.endpoint.specs.declared.Answer.TheVariants.{Done, Dropped}
+use Rattle.endpoint.specs.Answers.{Answer}
+use Rattle.endpoint.specs.declared.Refusal.TheVariants.{Dropped}
 use Rattle.endpoint.specs.Answers.{is_done}
 use Rattle.transitions.specs.ByCall.{fresh_of}
 use Rattle.steps.specs.Laws.{Ticks}
@@ -157,22 +158,22 @@ module _ (number : ℕ) (ws : List ℕ) (rs : List Record) (l : is_list ws ≡ t
 -- ---- a loading: done, or refused and of no connections
 module _ (number : ℕ) (ws : List ℕ) (rs : List Record) where
   loads : (P : Loaded → Type 0)
-      → (is_list ws ≡ true → ltb (length rs) (count_of ws) ≡ false → P (loaded Done (table_of number ws rs)))
+      → (is_list ws ≡ true → ltb (length rs) (count_of ws) ≡ false → P (loaded (Ok tt) (table_of number ws rs)))
       → ((a : Answer) → is_done a ≡ false → P (loaded a (lent (loaded_with 0) rs)))
       → P (loaded_of number ws rs)
   unfolding table_of
   loads P done refused =
       bcase (is_list ws)
-      (λ l. bcase (ltb (length rs) (count_of ws)) (λ s. rw (l, s) (refused (Dropped R.Buffer) refl))
+      (λ l. bcase (ltb (length rs) (count_of ws)) (λ s. rw (l, s) (refused (Err (Dropped R.Buffer)) refl))
       (λ s. rw (l, s) (done l s)))
-      (λ l. rw l (refused (Dropped R.Settings) refl))
+      (λ l. rw l (refused (Err (Dropped R.Settings)) refl))
 
-  pub loaded_table : (cid : ℕ) → (loaded_of number ws rs).answer ≡ Done
+  pub loaded_table : (cid : ℕ) → (loaded_of number ws rs).answer ≡ Ok tt
       → is_entry (loaded_of number ws rs).lent (place_of cid (loaded_of number ws rs).lent) ≡ true
       → Table number (loaded_of number ws rs).lent cid (place_of cid (loaded_of number ws rs).lent)
   unfolding table_of
   loaded_table cid =
-      loads (λ (x : Loaded). x.answer ≡ Done → is_entry x.lent (place_of cid x.lent) ≡ true
+      loads (λ (x : Loaded). x.answer ≡ Ok tt → is_entry x.lent (place_of cid x.lent) ≡ true
       → Table number x.lent cid (place_of cid x.lent))
       (λ l s d h. table_at number ws rs l s cid (place_of cid (table_of number ws rs)) refl (ltb-true _ (count_of ws) h))
       (λ a n d. absurd (false≢true (sym n ∙ ap is_done d)))

@@ -1,5 +1,8 @@
 -- Which connection a call on a gateway reaches: none, and the clock step is all; or one, whose step it takes.
 use mathlib.Core.Path.{◌≡◌, refl, sym, ap, ◌∙◌}
+use Rattle.std.specs.Prelude.{Err, Ok, Option, ℕ}
+use Rattle.frame.specs.Reading.{Reading}
+use Rattle.frame.specs.Reading.{frame_with}
 use mathlib.Core.Bool.{Bool, true, false, ◌&&◌, cond, false≢true}
 use mathlib.Core.List.{List}
 use Prim.Native.Nat.{ℕ, ◌<◌}
@@ -8,13 +11,11 @@ use lib.ListN.{length}
 use lib.Seq.{slice}
 use borrow.Author.Tests.{ltb-true}
 use Rattle.frame.specs.declared.Fields.{Fields}
-use Rattle.frame.specs.declared.Reading.{Reading}
-use Rattle.frame.specs.declared.Reading.TheVariants.{Frame, Refused}
 use Rattle.frame.specs.Reading.{reading_of}
 use Rattle.endpoint.specs.declared.Reason.{Reason}
 use Rattle.endpoint.specs.declared.Reason.TheVariants as R
-use Rattle.endpoint.specs.declared.Answer.{Answer}
-use Rattle.endpoint.specs.declared.Answer.TheVariants.{Done, Dropped, Ended}
+use Rattle.endpoint.specs.Answers.{Answer}
+use Rattle.endpoint.specs.declared.Refusal.TheVariants.{Dropped, Ended}
 use Rattle.endpoint.specs.Answers.{is_done}
 use Rattle.endpoint.specs.Time.{is_expired, after_tick}
 use Rattle.steps.specs.Frames.{nothing}
@@ -27,7 +28,7 @@ use Rattle.steps.proofs.Dispatch.{cond_true, cond_false}
 use Rattle.steps.proofs.Keeps.{bcase}
 use Rattle.steps.proofs.Values.{step_tidy}
 use Rattle.gateway.specs.Tables.{Lent, endpoint_at, is_entry, is_shorter, place_of, is_reading, clock_step, after_clock}
-use Rattle.gateway.specs.Calls.{Entry, result, admit, admit_entry, refused_entry, refused_of, admit_in, acted_of}
+use Rattle.gateway.specs.Calls.{result, admit, admit_entry, refused_entry, refused_of, admit_in, acted_of}
 use Rattle.gateway.specs.Calls.{before_entry, on_entry, is_short, before_show, shown_in, empty_cycle, reason_of, by_reading}
 use Rattle.gateway.specs.Calls.{deliver_in}
 use Rattle.gateway.proofs.Lands.{tells}
@@ -104,7 +105,7 @@ module _ (d : Lent) (t : ℕ) (by : S.Call) (k : ℕ) where
 pub data For (d : Lent) : Call → S.Call → ℕ → Type 0 where
   acts : (a : Act) (k : ℕ) → For d (act a k) (S.act a) k
   sends : (k : ℕ) (value : List ℕ) → For d (send k value) (S.send value) k
-  delivers : (s : List ℕ) (f : Fields) (from to k : ℕ) → reading_of s ≡ Frame f from to
+  delivers : (s : List ℕ) (f : Fields) (from to k : ℕ) → reading_of s ≡ Ok (frame_with f from to)
       → place_of f.connection d ≡ k
       → For d (deliver s) (S.deliver f (slice from to s)) k
 
@@ -115,7 +116,7 @@ pub data Still : Call → Answer → Type 0 where
 
 -- what a call comes to: the clock step, and that is all; a show of the connection at k; or that connection's step
 pub data Reach (d : Lent) (t room : ℕ) : Call → Type 0 where
-  nowhere : {c : Call} (a : Answer) (x : Entry) → Still c a
+  nowhere : {c : Call} (a : Answer) (x : Option ℕ) → Still c a
       → call_in d t room c ≡ result a x nothing (after_clock t d) → Reach d t room c
   showing : (k : ℕ) → call_in d t room (show k) ≡ shown_in (after_tick (endpoint_at d k) t) t k d
       → Reach d t room (show k)
@@ -123,7 +124,7 @@ pub data Reach (d : Lent) (t room : ℕ) : Call → Type 0 where
       → Live d t k → Reach d t room c
 
 -- refused by 1, 2 or what stands after them
-not_done : (r w s : Bool) (a : Reason) → is_done (admit r w s (Dropped a)) ≡ false
+not_done : (r w s : Bool) (a : Reason) → is_done (admit r w s (Err (Dropped a))) ≡ false
 not_done false w s a = refl
 not_done true true s a = refl
 not_done true false true a = refl
@@ -149,19 +150,19 @@ module _ (d : Lent) (t room : ℕ) where
   module _ (s : List ℕ) where
     by_reading_law : deliver_in d t room s ≡ by_reading d t room s (reading_of s) → (r : Reading) → reading_of s ≡ r
         → Reach d t room (deliver s)
-    by_reading_law arrived (Refused fault) h =
-        let a = admit_in d t (is_short room) (Dropped (reason_of fault)) in
+    by_reading_law arrived (Err fault) h =
+        let a = admit_in d t (is_short room) (Err (Dropped (reason_of fault))) in
         nowhere a (refused_entry a 0)
         (refused (not_done (is_reading d.gateway t) (is_shorter d) (is_short room) (reason_of fault)))
         (arrived ∙ ap (by_reading d t room s) h)
-    by_reading_law arrived (Frame f from to) h =
-        on_entry_law (S.deliver f (slice from to s)) R.Unknown (is_short room) (place_of f.connection d)
-        (delivers s f from to (place_of f.connection d) h refl) (arrived ∙ ap (by_reading d t room s) h)
+    by_reading_law arrived (Ok read) h =
+        on_entry_law (S.deliver read.fields (slice read.start read.end s)) R.Unknown (is_short room) (place_of read.fields.connection d)
+        (delivers s read.fields read.start read.end (place_of read.fields.connection d) h refl) (arrived ∙ ap (by_reading d t room s) h)
 
     deliver_reach : Reach d t room (deliver s)
     deliver_reach =
         let none = empty_cycle d t (is_short room) in
-        let a = admit_in d t (is_short room) Done in
+        let a = admit_in d t (is_short room) (Ok tt) in
         bcase (eqb (length s) 0)
         (λ z. nowhere a (refused_entry a 0) (empty z)
         (cond_true (eqb (length s) 0) none (by_reading d t room s (reading_of s)) z))

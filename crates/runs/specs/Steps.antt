@@ -1,12 +1,13 @@
 -- Every step on a gateway, loading or another call, and what it comes to as the contracts of `gateway` have it.
 use Rattle.std.specs.Prelude.{Bool, false, List, ℕ, eqb}
+use Rattle.std.specs.Prelude.{None, Option, Some}
 use Rattle.steps.specs.Frames.{nothing}
 use Rattle.steps.specs.Steps.{Act, start, stop, restart, set_not_ready, set_result, clear_result, set_record, clear_record}
 use Rattle.steps.specs.Steps.{invoke, read_error, write_error}
 use Rattle.records.specs.declared.Record.{Record}
 use Rattle.gateway.specs.Tables.{Lent}
 use Rattle.gateway.specs.Loading.{loaded_of}
-use Rattle.gateway.specs.Calls.{Entry, Absent, At, Result, result, start_in, send_in, stop_in, restart_in, set_not_ready_in}
+use Rattle.gateway.specs.Calls.{Result, result, start_in, send_in, stop_in, restart_in, set_not_ready_in}
 use Rattle.gateway.specs.Calls.{set_result_in, clear_result_in, set_record_in, clear_record_in, invoke_in, read_error_in}
 use Rattle.gateway.specs.Calls.{write_error_in, show_in, deliver_in}
 
@@ -44,10 +45,10 @@ call_in d t room (show n) = show_in d t room n
 
 -- a load has no entry and writes nothing
 abbrev pub step_in : Lent → Step → Result
-step_in d (load number ws rs) = result (loaded_of number ws rs).answer Absent nothing (loaded_of number ws rs).lent
+step_in d (load number ws rs) = result (loaded_of number ws rs).answer None nothing (loaded_of number ws rs).lent
 step_in d (call t room c) = call_in d t room c
 
 -- a call's entry is the one at n
-abbrev pub is_at : Entry → ℕ → Bool
-is_at Absent n = false
-is_at (At m) n = eqb m n
+abbrev pub is_at : Option ℕ → ℕ → Bool
+is_at None n = false
+is_at (Some m) n = eqb m n

@@ -1,2 +1,3 @@
 -- What a right list tells.
 pub mod Lists
+mod Below

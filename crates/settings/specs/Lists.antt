@@ -1,11 +1,16 @@
 -- Whole lists: each connection's seven words, and no CID twice (number 18 otherwise).
-use Rattle.std.specs.Prelude.{Bool, true, ◌&&◌, not, List, ℕ, zero, suc, ◌+◌, ◌*◌, ◌/◌, ◌%◌, eqb, leb, length, get_or}
+use Rattle.std.specs.Prelude.{Bool, true, ◌&&◌, not, List, map, ℕ, zero, suc, ◌+◌, ◌*◌, ◌/◌, ◌%◌, eqb, leb, length, get_or}
+use Rattle.std.specs.List.{range_with_len}
 use Rattle.endpoint.specs.declared.Settings.{Settings}
 use Rattle.settings.specs.Words.{rest_of, has_kinds, has_ranges, connection_of, settings_of}
 
 -- the j-th word of the connection i, both counted from 0
 abbrev pub word_of : List ℕ → ℕ → ℕ → ℕ
 word_of ws i j = get_or ws (7 * i + j) 0
+
+-- the seven words of the connection i
+abbrev pub words_of : List ℕ → ℕ → List ℕ
+words_of ws i = map (word_of ws i) (range_with_len 0 7)
 
 unfoldable pub connection_at : List ℕ → ℕ → ℕ
 connection_at ws i = connection_of (rest_of (word_of ws i 0)) (rest_of (word_of ws i 1))

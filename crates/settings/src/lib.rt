@@ -2,179 +2,146 @@
 // and the settings of each connection.
 #![tactic(auto)]
 
-ghost use Rattle.std.specs.Prelude.{◌≡◌, get_or, ◌<◌};
-ghost use Rattle.settings.specs.Words.{rest_of, is_ticks, is_words, has_kinds, has_ranges, connection_of, settings_of};
-ghost use Rattle.settings.specs.Lists.{word_of, connection_at, settings_at, is_connection_at, is_new_at, are_connections};
-ghost use Rattle.settings.specs.Lists.{is_list};
+ghost use Rattle.std.specs.Prelude.{◌≡◌, map};
+ghost use Rattle.settings.specs.Words.{kind_of, rest_of, is_ticks, is_words, has_kinds, has_ranges};
+ghost use Rattle.settings.specs.Lists.{word_of, words_of, connection_at, settings_at, is_connection_at, is_new_at};
+ghost use Rattle.settings.specs.Lists.{are_connections, is_list};
 
 use endpoint::Settings;
+use std::array;
 
 // The most connections of a gateway.
 const MOST_CONNECTIONS: usize = 64;
 
-// The word at k, 0 past the end.
-fn word(list: &[u32], k: usize) -> u32
-    ensures { result ≡ get_or list.now k 0 }
-{
-    if k < list.len() {
-        return list[k];
-    }
-    0
-}
-
-fn rest(w: u32) -> u32
-    ensures { result ≡ rest_of w }
-{
-    w % 268435456
-}
+// A word is this times its kind, and the rest below it.
+const KIND: u32 = 268435456;
 
 fn is_ticks(v: u32) -> bool
     ensures { result ≡ is_ticks v }
 {
-    (1 <= v) & (v <= 65535)
+    (1..=65535).contains(&v)
 }
 
 fn is_words(v: u32) -> bool
     ensures { result ≡ is_words v }
 {
-    (1 <= v) & (v <= 25)
+    (1..=25).contains(&v)
 }
 
-// Kinds 1 to 7 in order.
-fn has_kinds(a: u32, b: u32, c: u32, d: u32, e: u32, f: u32, g: u32) -> bool
-    ensures { result ≡ has_kinds a b c d e f g }
-{
-    (a / 268435456 == 1)
-        & ((b / 268435456 == 2)
-            & ((c / 268435456 == 3)
-                & ((d / 268435456 == 4)
-                    & ((e / 268435456 == 5) & ((f / 268435456 == 6) & (g / 268435456 == 7))))))
-}
+// The seven words of one connection.
+#[derive(Clone, Copy)]
+struct Words([u32; 7]);
 
-fn has_ranges(a: u32, b: u32, c: u32, i: u32, r: u32, g: u32) -> bool
-    ensures { result ≡ has_ranges a b c i r g }
-{
-    (a < 65536)
-        & ((b < 65536)
-            & (!(a == b)
-                & ((c < 2048)
-                    & (is_words(c / 32 % 32)
-                        & (is_words(c % 32) & (is_ticks(i) & (is_ticks(r) & is_ticks(g))))))))
-}
+impl Words {
+    // Those of the connection i: settings_at gives each word past the end of the list as 0, so no whole chunk is taken.
+    fn at(list: &[u32], i: u8) -> Words
+        ensures { result.0 ≡ words_of list.now i }
+    {
+        let from = 7 * usize::from(i);
+        Words(array::from_fn(|j| list.get(from + j).copied().unwrap_or(0)))
+    }
 
-fn connection_of(a: u32, b: u32) -> u32
-    ensures { result ≡ connection_of a b }
-{
-    65536 * (a % 65536) + b % 65536
-}
+    fn kinds(self) -> [u32; 7]
+        ensures { result ≡ map kind_of (words_of self.0 0) }
+    {
+        self.0.map(|word| word / KIND)
+    }
 
-// The settings of the words below their kinds.
-fn settings_of(a: u32, b: u32, c: u32, i: u32, r: u32, g: u32, s: u32) -> Settings
-    ensures { result ≡ settings_of a b c i r g s }
-{
-    Settings {
-        connection: connection_of(a, b),
-        slave: c / 1024 % 2 == 1,
-        masterwords: (c / 32 % 32) as u8,
-        slavewords: (c % 32) as u8,
-        interval: i,
-        roundtrip: r,
-        age: g,
-        station: s,
+    fn rests(self) -> [u32; 7]
+        ensures { result ≡ map rest_of (words_of self.0 0) }
+    {
+        self.0.map(|word| word % KIND)
+    }
+
+    // Kinds 1 to 7 in order. (Numbers: the list is C's.)
+    fn has_kinds(self) -> bool
+        ensures { result ≡ has_kinds (word_of self.0 0 0) (word_of self.0 0 1) (word_of self.0 0 2) (word_of self.0 0 3)
+            (word_of self.0 0 4) (word_of self.0 0 5) (word_of self.0 0 6) }
+    {
+        self.kinds() == [1, 2, 3, 4, 5, 6, 7]
+    }
+
+    fn has_ranges(self) -> bool
+        ensures { result ≡ has_ranges (rest_of (word_of self.0 0 0)) (rest_of (word_of self.0 0 1))
+            (rest_of (word_of self.0 0 2)) (rest_of (word_of self.0 0 3)) (rest_of (word_of self.0 0 4))
+            (rest_of (word_of self.0 0 5)) }
+    {
+        let [master, slave, role, interval, roundtrip, age, _] = self.rests();
+        master < 65536
+            && slave < 65536
+            && master != slave
+            && role < 2048
+            && is_words(role / 32 % 32)
+            && is_words(role % 32)
+            && is_ticks(interval)
+            && is_ticks(roundtrip)
+            && is_ticks(age)
+    }
+
+    #[tactic(auto, unfolding(crate::specs::Lists::is_connection_at))]
+    fn are_right(self) -> bool
+        ensures { result ≡ is_connection_at self.0 0 }
+    {
+        self.has_kinds() && self.has_ranges()
+    }
+
+    // CID, of the master's and the slave's address.
+    #[tactic(auto, unfolding(crate::specs::Lists::connection_at))]
+    fn connection(self) -> u32
+        ensures { result ≡ connection_at self.0 0 }
+    {
+        let [master, slave, ..] = self.rests();
+        65536 * (master % 65536) + slave % 65536
+    }
+
+    #[tactic(auto, unfolding(crate::specs::Lists::settings_at, crate::specs::Lists::connection_at))]
+    fn settings(self) -> Settings
+        ensures { result ≡ settings_at self.0 0 }
+    {
+        let [_, _, role, interval, roundtrip, age, station] = self.rests();
+        Settings {
+            connection: self.connection(),
+            slave: role / 1024 % 2 == 1,
+            masterwords: (role / 32 % 32) as u8,
+            slavewords: (role % 32) as u8,
+            interval,
+            roundtrip,
+            age,
+            station,
+        }
     }
 }
 
-// The j-th word of the connection i.
-fn word_of(list: &[u32], i: u8, j: usize) -> u32
-    requires { j < 7 }
-    ensures { result ≡ word_of list.now i j }
-{
-    word(list, 7 * (i as usize) + j)
-}
-
-fn connection_at(list: &[u32], i: u8) -> u32
-    ensures { result ≡ connection_at list.now i }
-{
-    connection_of(rest(word_of(list, i, 0)), rest(word_of(list, i, 1)))
-}
-
-// The settings of the connection i of a list, counted from 0.
+// The settings of the connection i of a list, counted from 0. (list and i stay two, here and below: this clause has both.)
+#[tactic(auto, unfolding(crate::specs::Lists::settings_at))]
 pub fn settings_at(list: &[u32], i: u8) -> Settings
     ensures { result ≡ settings_at list.now i }
 {
-    let a = word_of(list, i, 0);
-    let b = word_of(list, i, 1);
-    let c = word_of(list, i, 2);
-    let d = word_of(list, i, 3);
-    let e = word_of(list, i, 4);
-    let f = word_of(list, i, 5);
-    let g = word_of(list, i, 6);
-    settings_of(
-        a % 268435456,
-        b % 268435456,
-        c % 268435456,
-        d % 268435456,
-        e % 268435456,
-        f % 268435456,
-        g % 268435456,
-    )
+    Words::at(list, i).settings()
 }
 
-fn is_connection_at(list: &[u32], i: u8) -> bool
-    ensures { result ≡ is_connection_at list.now i }
-{
-    let a = word_of(list, i, 0);
-    let b = word_of(list, i, 1);
-    let c = word_of(list, i, 2);
-    let d = word_of(list, i, 3);
-    let e = word_of(list, i, 4);
-    let f = word_of(list, i, 5);
-    let g = word_of(list, i, 6);
-    has_kinds(a, b, c, d, e, f, g)
-        & has_ranges(
-            a % 268435456,
-            b % 268435456,
-            c % 268435456,
-            d % 268435456,
-            e % 268435456,
-            f % 268435456,
-        )
-}
-
-// Whether the CID of the connection i is none of those before it.
+// Whether the CID of the connection i is none of those before it: at most 63, and no heap for a set of them.
 fn is_new(list: &[u32], i: u8) -> bool
     ensures { result ≡ is_new_at list.now i i }
 {
-    let own = connection_at(list, i);
-    let mut is = true;
-    let mut n: u8 = 0;
-    while n < i {
-        is = is & !(own == connection_at(list, n));
-        n += 1;
-    }
-    is
+    let own = Words::at(list, i).connection();
+    (0..i).all(|n| Words::at(list, n).connection() != own)
 }
 
 // Whether the first n connections of a list are right.
 fn are_connections(list: &[u32], n: u8) -> bool
     ensures { result ≡ are_connections list.now n }
 {
-    let mut are = true;
-    let mut i: u8 = 0;
-    while i < n {
-        are = are & (is_connection_at(list, i) & is_new(list, i));
-        i += 1;
-    }
-    are
+    (0..n).all(|i| Words::at(list, i).are_right() && is_new(list, i))
 }
 
 // Whether a list is right: 1 to 64 connections of seven words each, and no CID twice.
+#[tactic(auto, unfolding(crate::specs::Lists::is_list))]
 pub fn is_list(list: &[u32]) -> bool
     ensures { result ≡ is_list list.now }
 {
-    let n = list.len();
-    if (n % 7 == 0) & (1 <= n / 7) & (n / 7 <= MOST_CONNECTIONS) {
-        return are_connections(list, (n / 7) as u8);
-    }
-    false
+    let count = list.len() / 7;
+    list.len() % 7 == 0
+        && (1..=MOST_CONNECTIONS).contains(&count)
+        && are_connections(list, count as u8)
 }

@@ -1,9 +1,10 @@
 -- The laws of the calls, all of them.
 use mathlib.Core.Path.{◌≡◌, refl, sym, ap, subst}
+use Rattle.std.specs.Prelude.{Err}
 use Prim.Native.Nat.{ℕ}
 use Rattle.endpoint.specs.Endpoint.{Endpoint}
 use Rattle.endpoint.specs.declared.Reason.{Reason}
-use Rattle.endpoint.specs.declared.Answer.TheVariants.{Dropped}
+use Rattle.endpoint.specs.declared.Refusal.TheVariants.{Dropped}
 use Rattle.steps.specs.Calls.{dropped}
 use Rattle.steps.specs.Steps.{Act, Call, act, send, deliver, show, act_of, step_of}
 use Rattle.steps.specs.Laws.{Carries, StepLaws}
@@ -38,14 +39,14 @@ carries e t (deliver f body) = C.deliver_carries e t f body
 carries e t show = tt
 
 -- ---- refusals
-act_drops : (e : Endpoint) (t : ℕ) (a : Act) (r : Reason) → (act_of e t a).answer ≡ Dropped r
-    → act_of e t a ≡ dropped e (Dropped r)
+act_drops : (e : Endpoint) (t : ℕ) (a : Act) (r : Reason) → (act_of e t a).answer ≡ Err (Dropped r)
+    → act_of e t a ≡ dropped e (Err (Dropped r))
 act_drops e t =
-    by_act e t (λ a. (r : Reason) → (act_of e t a).answer ≡ Dropped r → act_of e t a ≡ dropped e (Dropped r))
+    by_act e t (λ a. (r : Reason) → (act_of e t a).answer ≡ Err (Dropped r) → act_of e t a ≡ dropped e (Err (Dropped r)))
     (D.stop_dropped e t) (λ a q. q.drops)
 
-drops : (e : Endpoint) (t : ℕ) (call : Call) (r : Reason) → (step_of e t call).answer ≡ Dropped r
-    → step_of e t call ≡ dropped e (Dropped r)
+drops : (e : Endpoint) (t : ℕ) (call : Call) (r : Reason) → (step_of e t call).answer ≡ Err (Dropped r)
+    → step_of e t call ≡ dropped e (Err (Dropped r))
 drops e t (act a) r d = act_drops e t a r d
 drops e t (send value) r d = D.send_dropped e t value r d
 drops e t (deliver f body) r d = D.deliver_dropped e t f body r d

@@ -1,5 +1,7 @@
 -- A frame that an endpoint writes reads back, and carries its CID and its role's Application bit.
 use mathlib.Core.Path.{◌≡◌, refl, sym, subst}
+use Rattle.std.specs.Prelude.{Ok}
+use Rattle.std.specs.Prelude.{None, Option, Some, ℕ}
 use mathlib.Core.Bool.{Bool, true, false, ◌&&◌, ◌||◌, not, cond, beq, true≢false, false≢true}
 use mathlib.Core.List.{List}
 use Prim.Native.Nat.{ℕ, ◌-◌, ◌<◌}
@@ -9,8 +11,6 @@ use lib.ListN.{length}
 use borrow.Author.Tests.{not-true, not-false}
 use Rattle.frame.specs.declared.Command.{Command}
 use Rattle.frame.specs.declared.Command.TheVariants as K
-use Rattle.frame.specs.declared.Subconnection.{Subconnection}
-use Rattle.frame.specs.declared.Subconnection.TheVariants.{Absent, Number}
 use Rattle.frame.specs.declared.Fields.{Fields}
 use Rattle.frame.specs.Control.{is, narrowed}
 use Rattle.frame.specs.Writing.{is_writable}
@@ -18,7 +18,6 @@ use Rattle.frame.specs.RoundTrip.{SubconnectionFits, Readable}
 use mathlib.Mathlib.Data.Bool.Basic.{and_elim_left as and_left}
 use Rattle.endpoint.specs.declared.State.TheVariants.{Refresh}
 use Rattle.endpoint.specs.Endpoint.{Endpoint}
-use Rattle.endpoint.specs.declared.Answer.TheVariants.{Done}
 use Rattle.endpoint.specs.Answers.{first_of, is_done, is_dropped, is_ended}
 use Rattle.endpoint.specs.Table.{is_state, is_setup}
 use Rattle.endpoint.specs.Due.{request_due, is_pending, may_request, measurement_interval, is_late, refresh_due}
@@ -35,7 +34,7 @@ use Rattle.steps.proofs.Whole.{reply_writable}
 use Rattle.steps.proofs.Whole.{send_width_length, baseline_fits_law}
 
 -- a send that is done, outside Refresh, is a request
-pub may_request_law : (e : Endpoint) (t n : ℕ) → is_state e.state Refresh ≡ false → first_of (send_faults e t n) ≡ Done
+pub may_request_law : (e : Endpoint) (t n : ℕ) → is_state e.state Refresh ≡ false → first_of (send_faults e t n) ≡ Ok tt
     → may_request e ≡ true
 may_request_law e t n k h =
     let w : (is_state e.state Refresh || may_request e) ≡ true =
@@ -81,14 +80,14 @@ measurement_due e t h =
         by false false false l false es ep ea q g = absurd (true≢false g)
 
 -- the session number of a frame has 16 bits
-narrowed_fits : (s : Subconnection) → SubconnectionFits (narrowed s)
-narrowed_fits Absent = tt
-narrowed_fits (Number n) = omega arith
+narrowed_fits : (s : Option ℕ) → SubconnectionFits (narrowed s)
+narrowed_fits None = tt
+narrowed_fits (Some n) = omega arith
 
 session_fits_law : (e : Endpoint) (k : Command) → SubconnectionFits (session_with e k)
 session_fits_law e k = bcase (is k K.Connect) (λ h. rw h tt) (λ h. rw h (narrowed_fits e.session))
 
-reads_back : (k : Command) (sequence application : Bool) (s : Subconnection) (connection timestamp baseline : ℕ)
+reads_back : (k : Command) (sequence application : Bool) (s : Option ℕ) (connection timestamp baseline : ℕ)
     (body : List ℕ) → SubconnectionFits s → baseline < 65536
     → is_writable (sent_fields k sequence application s connection timestamp baseline) (length body) ≡ true
     → Readable (sent_fields k sequence application s connection timestamp baseline) body

@@ -1,41 +1,26 @@
--- A loop that copies a list over the front of another, one store a turn; a body in an array of 100.
-use mathlib.Core.Path.{◌≡◌, refl, sym, ap, ◌∙◌}
+-- A body in an array with zeros after it, and the front of that array.
+use mathlib.Core.Path.{◌≡◌, refl, sym, ap}
 use mathlib.Core.List.{List, [], ◌∷◌, ◌++◌}
-use Prim.Native.Nat.{ℕ, zero, suc, ◌+◌, ◌<◌, ◌≤◌}
+use Prim.Native.Nat.{ℕ, zero, suc, ◌≤◌}
 use native.Mathlib.Nat.{not-suc-le-zero, le_of_suc-le-suc}
-use native.Mathlib.Numerals.{add-one}
-use native.Mathlib.Omega.{arith}
-use lib.ListN.{length, get_or, set, take, drop, replicate, drop_of_length-le}
-use lib.Seq.{take_all}
-use Rattle.steps.specs.Frames.{padded_of}
+use lib.Dec.{lit≤}
+use lib.ListN.{length, take, drop, replicate}
+use Rattle.steps.specs.Frames.{padded_record}
 
-one_more : (s d : List ℕ) (i : ℕ) → i < length s → i < length d
-    → set (take i s ++ drop i d) i (get_or s i 0) ≡ take (suc i) s ++ drop (suc i) d
-one_more [] d i h k = absurd (not-suc-le-zero h)
-one_more (x ∷ s) [] i h k = absurd (not-suc-le-zero k)
-one_more (x ∷ s) (y ∷ d) zero h k = refl
-one_more (x ∷ s) (y ∷ d) (suc i) h k = ap (λ (l : List ℕ). x ∷ l)
-    (one_more s d i (le_of_suc-le-suc h) (le_of_suc-le-suc k))
+pub zeros : (m n : ℕ) → m ≤ n → take m (replicate {A = ℕ} n 0) ≡ replicate m 0
+zeros zero n h = refl
+zeros (suc m) zero h = absurd (not-suc-le-zero h)
+zeros (suc m) (suc n) h = ap (λ (l : List ℕ). 0 ∷ l) (zeros m n (le_of_suc-le-suc h))
 
-pub copy_step : (s d l : List ℕ) (i : ℕ) → l ≡ take i s ++ drop i d → i < length s → i < length d
-    → set l i (get_or s i 0) ≡ take (i + 1) s ++ drop (i + 1) d
-copy_step s d l i e h k = rw (e, add-one) (one_more s d i h k)
+-- the front of such an array is one itself
+pub padded_front : (m n : ℕ) (b : List ℕ) → m ≤ n
+    → take m (take n b ++ drop (length b) (replicate n 0)) ≡ take m b ++ drop (length b) (replicate m 0)
+padded_front zero n [] h = refl
+padded_front zero n (x ∷ b) h = refl
+padded_front (suc m) zero b h = absurd (not-suc-le-zero h)
+padded_front (suc m) (suc n) [] h = ap (λ (l : List ℕ). 0 ∷ l) (zeros m n (le_of_suc-le-suc h))
+padded_front (suc m) (suc n) (x ∷ b) h =
+    ap (λ (l : List ℕ). x ∷ l) (padded_front m n b (le_of_suc-le-suc h))
 
--- ---- a body in an array of 100
-unfoldable pub zeros : List ℕ
-zeros = replicate 100 0
-
-pub zeros_long : length zeros ≡ 100
-unfolding zeros
-zeros_long = refl
-
-pub padded_short : (b : List ℕ) → length b < 100 → take (length b) b ++ drop (length b) zeros ≡ padded_of b
-unfolding zeros
-padded_short b h =
-    ap (λ (l : List ℕ). l ++ drop (length b) (replicate 100 0))
-    (take_all (length b) b (omega arith) ∙ sym (take_all 100 b (omega arith)))
-
-pub padded_long : (b : List ℕ) → 100 ≤ length b → take 100 b ++ drop 100 zeros ≡ padded_of b
-unfolding zeros
-padded_long b h =
-    ap (λ (l : List ℕ). take 100 b ++ l) (sym (drop_of_length-le (replicate {A = ℕ} 100 0) {i = length b} h))
+pub record_front : (b : List ℕ) → take 56 b ++ drop (length b) (replicate 56 0) ≡ padded_record b
+record_front b = sym (padded_front 56 100 b (lit≤ tt))

@@ -1,5 +1,6 @@
 -- Which of its parts a delivery comes to.
 use mathlib.Core.Path.{◌≡◌, sym, ap, ◌∙◌}
+use Rattle.std.specs.Prelude.{Err}
 use mathlib.Core.Bool.{Bool, true, false, cond, beq}
 use mathlib.Core.List.{List}
 use Prim.Native.Nat.{ℕ}
@@ -11,7 +12,7 @@ use Rattle.frame.proofs.Digits.{command_of_code}
 use borrow.Author.Tests.{eqb-true}
 use Rattle.endpoint.specs.Endpoint.{Endpoint}
 use Rattle.endpoint.specs.declared.Reason.TheVariants as R
-use Rattle.endpoint.specs.declared.Answer.TheVariants.{Dropped}
+use Rattle.endpoint.specs.declared.Refusal.TheVariants.{Dropped}
 use Rattle.steps.specs.Calls.{dropped}
 use Rattle.steps.specs.Deliveries.{take_refresh, take_request, take_reply, deliver_of}
 
@@ -27,7 +28,7 @@ is_command k m h = sym (command_of_code k) ∙ ap command_of (eqb-true (code_of 
 
 module _ (e : Endpoint) (t : ℕ) (f : Fields) (body : List ℕ) where
   pub deliver_echo : beq f.application e.settings.slave ≡ true
-      → deliver_of e t f body ≡ dropped e (Dropped R.Echo)
+      → deliver_of e t f body ≡ dropped e (Err (Dropped R.Echo))
   deliver_echo h = cond_true _ _ _ h
 
   module _ (h : beq f.application e.settings.slave ≡ false) where

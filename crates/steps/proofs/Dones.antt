@@ -1,5 +1,7 @@
 -- What done tells of each call, and what dropped leaves.
 use mathlib.Core.Path.{◌≡◌, refl, sym, ap, subst, ◌∙◌}
+use Rattle.std.specs.Prelude.{Err, Ok}
+use Rattle.std.specs.Prelude.{None, Option, Some, ℕ}
 use mathlib.Core.Bool.{Bool, true, false, ◌&&◌, ◌||◌, not, cond, and-false, beq, true≢false, false≢true}
 use mathlib.Core.List.{List}
 use mathlib.Core.Logic.{◌⊎◌, inl, inr}
@@ -10,7 +12,6 @@ use lib.ListN.{length}
 use borrow.Author.Tests.{leb-false, ltb-false, eqb-true, not-true, not-false}
 use Rattle.frame.specs.declared.Command.{Command}
 use Rattle.frame.specs.declared.Command.TheVariants as K
-use Rattle.frame.specs.declared.Subconnection.{Subconnection}
 use Rattle.frame.specs.declared.Fields.{Fields}
 use Rattle.frame.specs.Control.{is, is_joined, is_same}
 use Rattle.words.specs.Bytes.{same}
@@ -20,12 +21,10 @@ use Rattle.endpoint.specs.declared.State.{State}
 use Rattle.endpoint.specs.declared.State.TheVariants.{Close, Starting, EstablishPending, Establish, ParamVerify}
 use Rattle.endpoint.specs.declared.State.TheVariants.{FuncRunning, RefreshPending, Refresh, Terminate}
 use Rattle.endpoint.specs.declared.State.TheVariants.{TerminateMore}
-use Rattle.endpoint.specs.declared.Pending.{Pending}
-use Rattle.endpoint.specs.declared.Pending.TheVariants.{Nothing, Asked}
 use Rattle.endpoint.specs.Endpoint.{Endpoint}
 use Rattle.endpoint.specs.declared.Reason.{Reason}
-use Rattle.endpoint.specs.declared.Answer.{Answer}
-use Rattle.endpoint.specs.declared.Answer.TheVariants.{Done, Dropped, Ended}
+use Rattle.endpoint.specs.Answers.{Answer}
+use Rattle.endpoint.specs.declared.Refusal.TheVariants.{Dropped, Ended}
 use Rattle.endpoint.specs.Answers.{record_faults, first_of, is_done, is_dropped}
 use Rattle.endpoint.specs.Table.{is_state, is_setup, is_terminated, next_of, is_no}
 use Rattle.endpoint.specs.Due.{request_due, is_pending, answers_to, may_request, request_limit, is_exhausted, may_queue}
@@ -52,18 +51,18 @@ use Rattle.steps.proofs.Dispatch.{is_command}
 use Rattle.steps.proofs.Quiet.{not_done, plain_done}
 
 -- a dropped answer is not done
-dropped_not_done : (a : Answer) → is_dropped a ≡ true → a ≡ Done → ⊥
-dropped_not_done Done h p = false≢true h
-dropped_not_done (Dropped r) h p = not_done r p
-dropped_not_done (Ended r) h p = false≢true h
+dropped_not_done : (a : Answer) → is_dropped a ≡ true → a ≡ Ok tt → ⊥
+dropped_not_done (Ok _) h p = false≢true h
+dropped_not_done (Err (Dropped r)) h p = not_done r p
+dropped_not_done (Err (Ended r)) h p = false≢true h
 
-idle_is : (p : Pending) → not (is_pending p) ≡ true → p ≡ Nothing
-idle_is Nothing h = refl
-idle_is (Asked t) h = absurd (false≢true h)
+idle_is : (p : Option ℕ) → not (is_pending p) ≡ true → p ≡ None
+idle_is None h = refl
+idle_is (Some t) h = absurd (false≢true h)
 
-answers_is : (p : Pending) (s : ℕ) → answers_to p s ≡ true → p ≡ Asked s
-answers_is Nothing s h = absurd (false≢true h)
-answers_is (Asked t) s h = ap Asked (eqb-true t s h)
+answers_is : (p : Option ℕ) (s : ℕ) → answers_to p s ≡ true → p ≡ Some s
+answers_is None s h = absurd (false≢true h)
+answers_is (Some t) s h = ap Some (eqb-true t s h)
 
 beq_true : (a b : Bool) → beq a b ≡ true → a ≡ b
 beq_true true true h = refl
@@ -110,7 +109,7 @@ no_result true busy = refl
 no_result false busy = refl
 
 module _ (e : Endpoint) (t : ℕ) where
-  pub start_done : (start_of e t).answer ≡ Done → StartDone e t
+  pub start_done : (start_of e t).answer ≡ Ok tt → StartDone e t
   start_done d =
       let m = not e.settings.slave in
       let z = is_state e.state Close in
@@ -121,12 +120,12 @@ module _ (e : Endpoint) (t : ℕ) where
         comes = cond_true _ _ _ h;
       }
 
-  pub restart_done : (number : ℕ) → (restart_of e number).answer ≡ Done → RestartDone e number
+  pub restart_done : (number : ℕ) → (restart_of e number).answer ≡ Ok tt → RestartDone e number
   restart_done number d =
       let h = plain_done (is_terminated e.state) _ e _ (λ n. refl) d in
       record { terminated = h; comes = cond_true _ _ _ h }
 
-  pub not_ready_set : (b : Bool) → (set_not_ready_of e b).answer ≡ Done → NotReadySet e b
+  pub not_ready_set : (b : Bool) → (set_not_ready_of e b).answer ≡ Ok tt → NotReadySet e b
   not_ready_set b d =
       let h = plain_done e.settings.slave _ e _ (λ n. refl) d in
       record { slave = h; comes = cond_true _ _ _ h }
@@ -136,17 +135,17 @@ module _ (e : Endpoint) (t : ℕ) where
   hand_turn turn n h =
       not-false turn (first_done (hand_faults turn n) (is_done_law (first_of (hand_faults turn n)) h)).turn
 
-  pub result_set_law : (body : List ℕ) → (set_result_of e body).answer ≡ Done → ResultSet e body
+  pub result_set_law : (body : List ℕ) → (set_result_of e body).answer ≡ Ok tt → ResultSet e body
   result_set_law body d =
       let h = plain_done (is_done (first_of (hand_faults e.settings.slave (length body)))) _ e _ (λ n. n) d in
       record { slave = hand_turn e.settings.slave (length body) h; comes = cond_true _ _ _ h }
 
-  pub result_cleared : (clear_result_of e).answer ≡ Done → ResultCleared e
+  pub result_cleared : (clear_result_of e).answer ≡ Ok tt → ResultCleared e
   result_cleared d =
       let h = plain_done e.settings.slave _ e _ (λ n. refl) d in
       record { slave = h; comes = cond_true _ _ _ h }
 
-  pub command_queued : (word : ℕ) (bytes : List ℕ) → (invoke_of e word bytes).answer ≡ Done
+  pub command_queued : (word : ℕ) (bytes : List ℕ) → (invoke_of e word bytes).answer ≡ Ok tt
       → CommandQueued e word bytes
   command_queued word bytes d =
       let l = length (command_data word bytes) in
@@ -159,34 +158,34 @@ module _ (e : Endpoint) (t : ℕ) where
   record_turn turn body h =
       let f = record_faults (not turn) (not (is_record body)) in not-false turn (first_done f (is_done_law (first_of f) h)).turn
 
-  pub record_set : (body : List ℕ) → (set_record_of e body).answer ≡ Done → RecordSet e body
+  pub record_set : (body : List ℕ) → (set_record_of e body).answer ≡ Ok tt → RecordSet e body
   record_set body d =
       let f = record_faults (not e.settings.slave) (not (is_record body)) in
       let h = plain_done (is_done (first_of f)) _ e _ (λ n. n) d in
       record { slave = record_turn e.settings.slave body h; comes = cond_true _ _ _ h }
 
-  pub record_cleared : (clear_record_of e).answer ≡ Done → RecordCleared e
+  pub record_cleared : (clear_record_of e).answer ≡ Ok tt → RecordCleared e
   record_cleared d =
       let h = plain_done e.settings.slave _ e _ (λ n. refl) d in
       record { slave = h; comes = cond_true _ _ _ h }
 
-  pub read_queued : (read_error_of e).answer ≡ Done → ReadQueued e
+  pub read_queued : (read_error_of e).answer ≡ Ok tt → ReadQueued e
   read_queued d =
       let h = plain_done (may_queue_read e) _ e _ (λ n. refl) d in
       record { may = h; comes = cond_true _ _ _ h }
 
-  pub write_queued : (body : List ℕ) → (write_error_of e body).answer ≡ Done → WriteQueued e body
+  pub write_queued : (body : List ℕ) → (write_error_of e body).answer ≡ Ok tt → WriteQueued e body
   write_queued body d =
       let f = record_faults (not (may_queue e)) (not (is_record body)) in
       let h = plain_done (is_done (first_of f)) _ e _ (λ n. n) d in
       record { may = record_turn (may_queue e) body h; comes = cond_true _ _ _ h }
 
   -- ---- send
-  above_sent : (n : ℕ) → first_of (send_faults e t n) ≡ Done → is_above e.timestamps.sent (time_of e t) ≡ true
+  above_sent : (n : ℕ) → first_of (send_faults e t n) ≡ Ok tt → is_above e.timestamps.sent (time_of e t) ≡ true
   above_sent n h = not-false (is_above e.timestamps.sent (time_of e t)) (first_done (send_faults e t n) h).soon
 
   -- a request that is done was not one too many
-  few_requests : (n : ℕ) → first_of (send_faults e t n) ≡ Done → may_request e ≡ true → e.setup.requests < request_limit
+  few_requests : (n : ℕ) → first_of (send_faults e t n) ≡ Ok tt → may_request e ≡ true → e.setup.requests < request_limit
   few_requests n h m =
       let x : (may_request e && is_exhausted e) ≡ false = (first_done (send_faults e t n) h).exhausted in
       leb-false request_limit e.setup.requests (rw m at x)
@@ -199,7 +198,7 @@ module _ (e : Endpoint) (t : ℕ) where
       inl (record { due = q; idle = idle_is e.setup.pending (rw z.0); answered = z.1 })
   which false q u = inr q
 
-  pub send_done : (value : List ℕ) → (send_of e t value).answer ≡ Done
+  pub send_done : (value : List ℕ) → (send_of e t value).answer ≡ Ok tt
       → RefreshSent e t value ⊎ (MeasurementSent e t value ⊎ RequestSent e t value)
   send_done value d =
       let n = length value in
@@ -238,8 +237,8 @@ module _ (e : Endpoint) (t : ℕ) where
       }))))
       (λ i. absurd (false≢true (sym i ∙ ap is_done (rw i at d))))
 
-  pub send_dropped : (value : List ℕ) (r : Reason) → (send_of e t value).answer ≡ Dropped r
-      → send_of e t value ≡ dropped e (Dropped r)
+  pub send_dropped : (value : List ℕ) (r : Reason) → (send_of e t value).answer ≡ Err (Dropped r)
+      → send_of e t value ≡ dropped e (Err (Dropped r))
   send_dropped value r d =
       let a = first_of (send_faults e t (length value)) in
       bcase (is_done a)
@@ -247,21 +246,21 @@ module _ (e : Endpoint) (t : ℕ) where
       (λ k. bcase (is_value_due e t) (λ v. absurd (not_done r (sym (rw (h, k, v) at d))))
       (λ v. absurd (not_done r (sym (rw (h, k, v) at d)))))
       (λ k. absurd (not_done r (sym (rw (h, k) at d)))))
-      (λ h. let p : a ≡ Dropped r = rw h at d in rw h (ap (refused e) p))
+      (λ h. let p : a ≡ Err (Dropped r) = rw h at d in rw h (ap (refused e) p))
 
   -- a send is done, dropped, or ends the connection
-  pub send_cases : (P : Outcome → Type 0) (value : List ℕ) → ((send_of e t value).answer ≡ Done → P (send_of e t value))
+  pub send_cases : (P : Outcome → Type 0) (value : List ℕ) → ((send_of e t value).answer ≡ Ok tt → P (send_of e t value))
       → ((a : Answer) → P (dropped e a)) → ((a : Answer) → P (outcome a (ended_of e) nothing)) → P (send_of e t value)
   send_cases P value p q r = go (first_of (send_faults e t (length value))) refl
     where
       go : (a : Answer) → first_of (send_faults e t (length value)) ≡ a → P (send_of e t value)
-      go Done h = p (rw h (bcase (is_state e.state Refresh)
+      go (Ok _) h = p (rw h (bcase (is_state e.state Refresh)
           (λ k. rw k (bcase (is_value_due e t) (λ v. rw v) (λ v. rw v))) (λ k. rw k)))
-      go (Dropped x) h = rw h (q (Dropped x))
-      go (Ended x) h = rw h (r (Ended x))
+      go (Err (Dropped x)) h = rw h (q (Err (Dropped x)))
+      go (Err (Ended x)) h = rw h (r (Err (Ended x)))
 
   -- ---- stop
-  pub stop_done : (stop_of e t).answer ≡ Done → StopDone e t
+  pub stop_done : (stop_of e t).answer ≡ Ok tt → StopDone e t
   stop_done d =
       let a = first_of (stop_faults e t) in
       let above = is_above e.timestamps.sent (time_of e t) in
@@ -281,14 +280,14 @@ module _ (e : Endpoint) (t : ℕ) where
       master_above true above m s = absurd (true≢false m)
       master_above false above m s = s
 
-  pub stop_dropped : (r : Reason) → (stop_of e t).answer ≡ Dropped r → stop_of e t ≡ dropped e (Dropped r)
+  pub stop_dropped : (r : Reason) → (stop_of e t).answer ≡ Err (Dropped r) → stop_of e t ≡ dropped e (Err (Dropped r))
   stop_dropped r d =
       let a = first_of (stop_faults e t) in
-      bcase (is_dropped a) (λ h. let p : a ≡ Dropped r = rw h at d in rw h (ap (dropped e) p))
+      bcase (is_dropped a) (λ h. let p : a ≡ Err (Dropped r) = rw h at d in rw h (ap (dropped e) p))
       (λ h. absurd (not_done r (sym (rw h at d))))
 
   -- ---- deliver
-  pub refresh_done : (m : Subconnection) (stamp : ℕ) (body : List ℕ) → (take_refresh e t m stamp body).answer ≡ Done
+  pub refresh_done : (m : Option ℕ) (stamp : ℕ) (body : List ℕ) → (take_refresh e t m stamp body).answer ≡ Ok tt
       → RefreshTaken e t m stamp body
   refresh_done m stamp body d =
       let f = first_done (refresh_faults e t m stamp (length body)) d in
@@ -320,7 +319,7 @@ module _ (e : Endpoint) (t : ℕ) where
 
   pub request_done : (f : Fields) (body : List ℕ) → is_state e.state Refresh ≡ false
       → is f.command K.Disconnect ≡ false → is f.command K.WriteErrorInfo ≡ false
-      → (take_request e t f body).answer ≡ Done → RequestTaken e t f body
+      → (take_request e t f body).answer ≡ Ok tt → RequestTaken e t f body
   request_done f body r k w d =
       let n = first_done (request_faults e t f body) d in
       let s = same body (setup_data e.settings f.command) in
@@ -346,7 +345,7 @@ module _ (e : Endpoint) (t : ℕ) where
 
   pub synchronization_done : (f : Fields) (body : List ℕ) → is_state e.state Refresh ≡ true
       → is f.command K.Refresh ≡ false → is f.command K.Disconnect ≡ false
-      → (take_request e t f body).answer ≡ Done → SynchronizationTaken e t f body
+      → (take_request e t f body).answer ≡ Ok tt → SynchronizationTaken e t f body
   synchronization_done f body r k u d =
       let n = first_done (request_faults e t f body) d in
       let j = joined_in_refresh f.command
@@ -372,7 +371,7 @@ module _ (e : Endpoint) (t : ℕ) where
       }
 
   pub report_done : (f : Fields) (body : List ℕ) → is f.command K.WriteErrorInfo ≡ true
-      → (take_request e t f body).answer ≡ Done
+      → (take_request e t f body).answer ≡ Ok tt
       → ReportTaken e t f body
   report_done f body k d =
       let n = first_done (request_faults e t f body) d in
@@ -385,7 +384,7 @@ module _ (e : Endpoint) (t : ℕ) where
       }
 
   pub disconnect_done : (f : Fields) (body : List ℕ) → is f.command K.Disconnect ≡ true
-      → (take_request e t f body).answer ≡ Done
+      → (take_request e t f body).answer ≡ Ok tt
       → DisconnectTaken e t f body
   disconnect_done f body k d =
       let n = first_done (request_faults e t f body) d in
@@ -397,14 +396,14 @@ module _ (e : Endpoint) (t : ℕ) where
 
   -- a reply that is done is the pending request's, and of the measurement under way
   awaited : (f : Fields) → not (answers_to e.setup.pending f.timestamp && is_awaited e t f) ≡ false
-      → (e.setup.pending ≡ Asked f.timestamp) × (is_awaited e t f ≡ true)
+      → (e.setup.pending ≡ Some f.timestamp) × (is_awaited e t f ≡ true)
   awaited f h =
       let a = answers_to e.setup.pending f.timestamp in
       let w = not-false (a && is_awaited e t f) h in
       (answers_is e.setup.pending f.timestamp (and_left a (is_awaited e t f) w), and_right a (is_awaited e t f) w)
 
   pub reply_done : (f : Fields) (body : List ℕ) → is_state e.state Refresh ≡ false
-      → (take_reply e t f body).answer ≡ Done → ReplyTaken e t f body
+      → (take_reply e t f body).answer ≡ Ok tt → ReplyTaken e t f body
   reply_done f body r d =
       let n = first_done (reply_faults e t f body) d in
       let due = request_due e in
@@ -426,7 +425,7 @@ module _ (e : Endpoint) (t : ℕ) where
       }
 
   pub measurement_heard : (f : Fields) (body : List ℕ) → is_state e.state Refresh ≡ true
-      → (take_reply e t f body).answer ≡ Done → MeasurementHeard e t f body
+      → (take_reply e t f body).answer ≡ Ok tt → MeasurementHeard e t f body
   measurement_heard f body r d =
       let n = first_done (reply_faults e t f body) d in
       let u = neither f.error (not (is_result f || same body (due_data e))) n.unequal in
@@ -437,7 +436,7 @@ module _ (e : Endpoint) (t : ℕ) where
       (and_right (beq f.sequence (sequence_of e)) _ w.1) in
       let k = and_left (is f.command (awaited_in e)) (not (is_late e t)) j in
       let late : ltb e.settings.roundtrip (t - f.timestamp) ≡ false = subst
-      (λ (p : Pending). ltb e.settings.roundtrip (t - last_step p e.setup.measured) ≡ false) w.0
+      (λ (p : Option ℕ). ltb e.settings.roundtrip (t - last_step p e.setup.measured) ≡ false) w.0
       (not-true (is_late e t) (and_right (is f.command (awaited_in e)) (not (is_late e t)) j)) in
       let passed = ltb-false e.settings.roundtrip (t - f.timestamp) late in
       let c = is_command f.command (awaited_in e) k in
@@ -453,23 +452,23 @@ module _ (e : Endpoint) (t : ℕ) where
         comes = rw (d, r, q);
       }
 
-  pub deliver_dropped : (f : Fields) (body : List ℕ) (r : Reason) → (deliver_of e t f body).answer ≡ Dropped r
-      → deliver_of e t f body ≡ dropped e (Dropped r)
+  pub deliver_dropped : (f : Fields) (body : List ℕ) (r : Reason) → (deliver_of e t f body).answer ≡ Err (Dropped r)
+      → deliver_of e t f body ≡ dropped e (Err (Dropped r))
   deliver_dropped f body r d =
       bcase (beq f.application e.settings.slave)
       (λ h. let q = deliver_echo e t f body h in q ∙ ap (dropped e) (sym (ap (λ (o : Outcome). o.answer) q) ∙ d))
       (λ h. bcase (is f.command K.Refresh)
       (λ k.
       let q = deliver_refresh e t f body h k in
-      let p : first_of (refresh_faults e t f.subconnection f.timestamp (length body)) ≡ Dropped r = sym
+      let p : first_of (refresh_faults e t f.subconnection f.timestamp (length body)) ≡ Err (Dropped r) = sym
       (ap (λ (o : Outcome). o.answer) q) ∙ d in
       q ∙ rw p)
       (λ k. bcase e.settings.slave
       (λ m.
       let q = deliver_request e t f body h k m in
-      let p : first_of (request_faults e t f body) ≡ Dropped r = sym (ap (λ (o : Outcome). o.answer) q) ∙ d in
+      let p : first_of (request_faults e t f body) ≡ Err (Dropped r) = sym (ap (λ (o : Outcome). o.answer) q) ∙ d in
       q ∙ rw p)
       (λ m.
       let q = deliver_reply e t f body h k m in
-      let p : first_of (reply_faults e t f body) ≡ Dropped r = sym (ap (λ (o : Outcome). o.answer) q) ∙ d in
+      let p : first_of (reply_faults e t f body) ≡ Err (Dropped r) = sym (ap (λ (o : Outcome). o.answer) q) ∙ d in
       q ∙ rw p)))

@@ -1,5 +1,6 @@
 -- What an answer says of the tests before it.
 use mathlib.Core.Path.{◌≡◌, refl, sym}
+use Rattle.std.specs.Prelude.{Err, Ok}
 use mathlib.Core.Bool.{Bool, true, false, ◌&&◌, ◌||◌, not, cond, true≢false}
 use mathlib.Core.List.{List}
 use Prim.Native.Nat.{ℕ}
@@ -17,8 +18,8 @@ use Rattle.endpoint.specs.declared.State.TheVariants.{Refresh}
 use Rattle.endpoint.specs.Endpoint.{Endpoint}
 use Rattle.endpoint.specs.declared.Reason.{Reason}
 use Rattle.endpoint.specs.declared.Reason.TheVariants as R
-use Rattle.endpoint.specs.declared.Answer.{Answer}
-use Rattle.endpoint.specs.declared.Answer.TheVariants.{Done, Dropped, Ended}
+use Rattle.endpoint.specs.Answers.{Answer}
+use Rattle.endpoint.specs.declared.Refusal.TheVariants.{Dropped, Ended}
 use Rattle.endpoint.specs.declared.Faults.{Faults}
 use Rattle.endpoint.specs.Answers.{first_of, is_done, is_dropped}
 use Rattle.endpoint.specs.Table.{is_state}
@@ -30,7 +31,7 @@ use Rattle.steps.proofs.Keeps.{bcase}
 use Rattle.steps.proofs.Whole.{record_bytes_law, setup_length}
 
 -- an answer that is not dropped is past each test that drops
-past : (b : Bool) (r : Reason) (x : Answer) → is_dropped (cond b (Dropped r) x) ≡ false → (b ≡ false)
+past : (b : Bool) (r : Reason) (x : Answer) → is_dropped (cond b (Err (Dropped r)) x) ≡ false → (b ≡ false)
     × (is_dropped x ≡ false)
 past true r x h = absurd (true≢false h)
 past false r x h = (refl, h)
@@ -64,13 +65,13 @@ not_soon f x l u h =
     let w = past f.width R.Width _ n.1 in
     let p = past f.repeat R.Repeat _ (rw x at w.1) in
     let a = past f.ahead R.Ahead _ p.1 in
-    (past f.soon R.TooSoon Done (rw (l, u) at a.1)).0
+    (past f.soon R.TooSoon (Ok tt) (rw (l, u) at a.1)).0
 
 -- ---- done: no test applies
-pub is_done_law : (a : Answer) → is_done a ≡ true → a ≡ Done
-is_done_law Done h = refl
-is_done_law (Dropped r) h = absurd (true≢false (sym h))
-is_done_law (Ended r) h = absurd (true≢false (sym h))
+pub is_done_law : (a : Answer) → is_done a ≡ true → a ≡ Ok tt
+is_done_law (Ok _) h = refl
+is_done_law (Err (Dropped r)) h = absurd (true≢false (sym h))
+is_done_law (Err (Ended r)) h = absurd (true≢false (sym h))
 
 pub record NoFault (f : Faults) : Type 0 where
   pub turn : f.turn ≡ false
@@ -84,15 +85,15 @@ pub record NoFault (f : Faults) : Type 0 where
   pub unequal : f.unequal ≡ false
   pub soon : f.soon ≡ false
 
-drops : (b : Bool) (r : Reason) (x : Answer) → cond b (Dropped r) x ≡ Done → (b ≡ false) × (x ≡ Done)
+drops : (b : Bool) (r : Reason) (x : Answer) → cond b (Err (Dropped r)) x ≡ Ok tt → (b ≡ false) × (x ≡ Ok tt)
 drops true r x h = let z : ◌≡◌ {A = ℕ} 0 1 = cc in absurd (omega arith)
 drops false r x h = (refl, h)
 
-ends : (b : Bool) (r : Reason) (x : Answer) → cond b (Ended r) x ≡ Done → (b ≡ false) × (x ≡ Done)
+ends : (b : Bool) (r : Reason) (x : Answer) → cond b (Err (Ended r)) x ≡ Ok tt → (b ≡ false) × (x ≡ Ok tt)
 ends true r x h = let z : ◌≡◌ {A = ℕ} 0 1 = cc in absurd (omega arith)
 ends false r x h = (refl, h)
 
-pub first_done : (f : Faults) → first_of f ≡ Done → NoFault f
+pub first_done : (f : Faults) → first_of f ≡ Ok tt → NoFault f
 first_done f h =
     let t = drops f.turn R.Turn _ h in
     let s = drops f.session R.Session _ t.1 in
@@ -120,7 +121,7 @@ first_done f h =
 -- ---- the length of what is sent and taken
 -- a send in Refresh that is done, where the value is due, has one of the right length
 pub sent_width : (e : Endpoint) (t n : ℕ) → is_state e.state Refresh ≡ true → is_value_due e t ≡ true
-    → first_of (send_faults e t n) ≡ Done → n ≡ send_width e.settings
+    → first_of (send_faults e t n) ≡ Ok tt → n ≡ send_width e.settings
 sent_width e t n r u h =
     let w : (is_state e.state Refresh && (is_value_due e t && not (eqb n (send_width e.settings)))) ≡ false =
     (first_done (send_faults e t n) h).width in

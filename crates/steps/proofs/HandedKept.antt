@@ -1,6 +1,8 @@
 -- No call but a send and a deliver where S-RefreshReady is due looks at the bytes of what was handed over; and each leaves
 -- them, or what it hands over.
 use mathlib.Core.Path.{◌≡◌, refl, sym, ap, subst}
+use Rattle.std.specs.Prelude.{Err, Ok}
+use Rattle.std.specs.Prelude.{None}
 use mathlib.Core.Bool.{Bool, true, false, ◌&&◌, ◌||◌, not, cond, and-false, beq, true≢false}
 use mathlib.Core.List.{List}
 use Prim.Native.Nat.{ℕ}
@@ -17,9 +19,8 @@ use Rattle.endpoint.specs.declared.State.TheVariants.{FuncRunning, RefreshPendin
 use Rattle.endpoint.specs.declared.State.TheVariants.{TerminateMore}
 use Rattle.endpoint.specs.Endpoint.{Endpoint, words_of}
 use Rattle.endpoint.specs.declared.Reason.TheVariants as R
-use Rattle.endpoint.specs.declared.Pending.TheVariants.{Nothing}
-use Rattle.endpoint.specs.declared.Answer.{Answer}
-use Rattle.endpoint.specs.declared.Answer.TheVariants.{Done, Dropped, Ended}
+use Rattle.endpoint.specs.Answers.{Answer}
+use Rattle.endpoint.specs.declared.Refusal.TheVariants.{Dropped, Ended}
 use Rattle.endpoint.specs.Answers.{record_faults, setup_faults, first_of, is_done, is_dropped, is_ended, left_by}
 use Rattle.endpoint.specs.Table.{is_state, is_terminated, request_of, next_of, is_no}
 use Rattle.endpoint.specs.Due.{is_waiting, is_command_due, answers_to, is_held_back, may_queue, may_queue_read}
@@ -89,12 +90,12 @@ module _ (e : Endpoint) (w x : List ℕ) where
       record { answered = refl; writes = refl; left = λ i. with_handed (sym p i) (sym q i) y }
 
   -- an act that hands over, or is refused
-  hands : {k : Act} {y y' : Endpoint} (a : Answer) → Left (act k) (outcome Done y nothing) (outcome Done y' nothing)
-      → Left (act k) (cond (is_done a) (outcome Done y nothing) (dropped e a))
-      (cond (is_done a) (outcome Done y' nothing) (dropped (held e) a))
-  hands Done p = p
-  hands (Dropped r) p = stays (Dropped r) e nothing refl refl
-  hands (Ended r) p = stays (Ended r) e nothing refl refl
+  hands : {k : Act} {y y' : Endpoint} (a : Answer) → Left (act k) (outcome (Ok tt) y nothing) (outcome (Ok tt) y' nothing)
+      → Left (act k) (cond (is_done a) (outcome (Ok tt) y nothing) (dropped e a))
+      (cond (is_done a) (outcome (Ok tt) y' nothing) (dropped (held e) a))
+  hands (Ok _) p = p
+  hands (Err (Dropped r)) p = stays (Err (Dropped r)) e nothing refl refl
+  hands (Err (Ended r)) p = stays (Err (Ended r)) e nothing refl refl
 
   -- a stop hands nothing over, whatever it is answered
   no_words : (a : Answer) → words_after (act stop) a w ≡ w
@@ -103,40 +104,40 @@ module _ (e : Endpoint) (w x : List ℕ) where
   no_record : (a : Answer) → record_after (act stop) a x ≡ x
   no_record a = rw (and-false (is_done a))
 
-  refused_turn : {k : Call} → words_after k (Dropped R.Turn) w ≡ w → record_after k (Dropped R.Turn) x ≡ x
-      → Left k (dropped e (Dropped R.Turn)) (dropped (held e) (Dropped R.Turn))
-  refused_turn p q = stays (Dropped R.Turn) e nothing p q
+  refused_turn : {k : Call} → words_after k (Err (Dropped R.Turn)) w ≡ w → record_after k (Err (Dropped R.Turn)) x ≡ x
+      → Left k (dropped e (Err (Dropped R.Turn))) (dropped (held e) (Err (Dropped R.Turn)))
+  refused_turn p q = stays (Err (Dropped R.Turn)) e nothing p q
 
   module _ (t : ℕ) where
     act_left : (a : Act) → Left (act a) (act_of e t a) (act_of (held e) t a)
     act_left start =
-        either (not e.settings.slave && is_state e.state Close) (stays Done (started_of e t) nothing refl refl)
+        either (not e.settings.slave && is_state e.state Close) (stays (Ok tt) (started_of e t) nothing refl refl)
         (refused_turn refl refl)
     act_left stop =
         let a = first_of (stop_faults e t) in
         either (is_dropped a) (stays a e nothing (no_words a) (no_record a))
-        (stays Done (stopped_of e t) (disconnect_of e t) refl refl)
+        (stays (Ok tt) (stopped_of e t) (disconnect_of e t) refl refl)
     act_left (restart number) =
-        either (is_terminated e.state) (stays Done (restarted_of e number) nothing refl refl) (refused_turn refl refl)
+        either (is_terminated e.state) (stays (Ok tt) (restarted_of e number) nothing refl refl) (refused_turn refl refl)
     act_left (set_not_ready r) =
-        either e.settings.slave (stays Done (with_not_ready r e) nothing refl refl) (refused_turn refl refl)
+        either e.settings.slave (stays (Ok tt) (with_not_ready r e) nothing refl refl) (refused_turn refl refl)
     act_left (set_result body) =
         hands (first_of (hand_faults e.settings.slave (length body)))
         (record { answered = refl; writes = refl; left = refl })
     act_left clear_result =
-        either e.settings.slave (stays Done (with_words (words_of 0 e.words.bytes) e) nothing refl refl)
+        either e.settings.slave (stays (Ok tt) (with_words (words_of 0 e.words.bytes) e) nothing refl refl)
         (refused_turn refl refl)
     act_left (set_record body) =
         hands (first_of (record_faults (not e.settings.slave) (not (is_record body))))
         (record { answered = refl; writes = refl; left = refl })
     act_left clear_record =
-        either e.settings.slave (stays Done (with_error_info (words_of 0 e.errorinfo.bytes) e) nothing refl refl)
+        either e.settings.slave (stays (Ok tt) (with_error_info (words_of 0 e.errorinfo.bytes) e) nothing refl refl)
         (refused_turn refl refl)
     act_left (invoke word bytes) =
         hands (first_of (hand_faults (may_queue e) (length (command_data word bytes))))
         (record { answered = refl; writes = refl; left = refl })
     act_left read_error =
-        either (may_queue_read e) (stays Done (read_queued_of e) nothing refl refl) (refused_turn refl refl)
+        either (may_queue_read e) (stays (Ok tt) (read_queued_of e) nothing refl refl) (refused_turn refl refl)
     act_left (write_error body) =
         hands (first_of (record_faults (not (may_queue e)) (not (is_record body))))
         (record { answered = refl; writes = refl; left = refl })
@@ -149,9 +150,9 @@ module _ (e : Endpoint) (w x : List ℕ) where
 
     by_answer : (a : Answer) (y z v : Endpoint) {v' : Endpoint} → v' ≡ held v
         → left_by a (held y) (held z) v' ≡ held (left_by a y z v)
-    by_answer Done y z v p = p
-    by_answer (Dropped r) y z v p = refl
-    by_answer (Ended r) y z v p = refl
+    by_answer (Ok _) y z v p = p
+    by_answer (Err (Dropped r)) y z v p = refl
+    by_answer (Err (Ended r)) y z v p = refl
 
     module _ (s : is_readying e ≡ false) where
       due_apart : due_data (held e) ≡ due_data e
@@ -171,7 +172,7 @@ module _ (e : Endpoint) (w x : List ℕ) where
           (record { answered = refl; writes = refl; left = by_answer a e (ended_of e) e refl })
 
       module _ (f : Fields) (body : List ℕ) where
-        refused : Left (deliver f body) (dropped e (Dropped R.Turn)) (dropped (held e) (Dropped R.Turn))
+        refused : Left (deliver f body) (dropped e (Err (Dropped R.Turn))) (dropped (held e) (Err (Dropped R.Turn)))
         refused = refused_turn refl refl
 
         refresh_left : Left (deliver f body) (take_refresh e t f.subconnection f.timestamp body)
@@ -241,8 +242,8 @@ module _ (e : Endpoint) (w x : List ℕ) where
             let a = first_of (reply_faults e t f body) in
             let next : heard_of (held e) t f ≡ held (heard_of e t f) =
             by_test (is_state e.state Refresh) (measurement_heard_of e t f) (setup_heard_of e t f)
-            (by_test (is f.command K.RefreshMo) (with_pending Nothing (with_measured t (with_answered true e)))
-            (with_pending Nothing (with_answered false e)) refl refl)
+            (by_test (is f.command K.RefreshMo) (with_pending None (with_measured t (with_answered true e)))
+            (with_pending None (with_answered false e)) refl refl)
             (by_test f.busy (due_again_of e t) (cond (is_command_due e) (performed_of e t) (confirmed_of e t f)) refl
             (by_test (is_command_due e) (performed_of e t) (confirmed_of e t f) refl refl)) in
             subst (Left (deliver f body) (take_reply e t f body)) (sym (ap reply_with due_apart))

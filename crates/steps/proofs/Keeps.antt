@@ -1,6 +1,8 @@
 -- A send, a stop and a deliver keep the settings and what was handed over; a stop and a deliver the count of requests.
 -- The other acts: Quiet, and HandedKept.
 use mathlib.Core.Path.{◌≡◌, refl, ap, ◌∙◌}
+use Rattle.std.specs.Prelude.{Err, Ok}
+use Rattle.std.specs.Prelude.{None}
 use mathlib.Core.Bool.{Bool, true, false, cond, beq}
 use mathlib.Core.List.{List}
 use Prim.Native.Nat.{ℕ}
@@ -10,10 +12,9 @@ use Rattle.frame.specs.declared.Fields.{Fields}
 use Rattle.frame.specs.Control.{is}
 use Rattle.endpoint.specs.declared.Settings.{Settings}
 use Rattle.endpoint.specs.Endpoint.{Endpoint, Words}
-use Rattle.endpoint.specs.declared.Answer.{Answer}
-use Rattle.endpoint.specs.declared.Answer.TheVariants.{Done, Dropped, Ended}
+use Rattle.endpoint.specs.Answers.{Answer}
+use Rattle.endpoint.specs.declared.Refusal.TheVariants.{Dropped, Ended}
 use Rattle.endpoint.specs.declared.State.TheVariants.{Refresh}
-use Rattle.endpoint.specs.declared.Pending.TheVariants.{Nothing}
 use Rattle.endpoint.specs.Answers.{first_of, is_done, is_dropped, left_by}
 use Rattle.endpoint.specs.Table.{is_state}
 use Rattle.endpoint.specs.Time.{ended_of}
@@ -52,9 +53,9 @@ lasts e x k = ap (λ (s : Kept). let l : Lasting = (s.0, s.1, s.2) in l) k
 
 left_keeps : (s : Kept) (a : Answer) (x y z : Endpoint) → kept x ≡ s → kept y ≡ s → kept z ≡ s
     → kept (left_by a x y z) ≡ s
-left_keeps s Done x y z p q r = r
-left_keeps s (Dropped n) x y z p q r = p
-left_keeps s (Ended n) x y z p q r = q
+left_keeps s (Ok _) x y z p q r = r
+left_keeps s (Err (Dropped n)) x y z p q r = p
+left_keeps s (Err (Ended n)) x y z p q r = q
 
 either_keeps : (s : Kept) (b : Bool) (x y : Endpoint) → kept x ≡ s → kept y ≡ s → kept (cond b x y) ≡ s
 either_keeps s true x y p q = p
@@ -94,8 +95,8 @@ module _ (e : Endpoint) (t : ℕ) where
       let r : kept (take_reply e t f body).endpoint ≡ s =
       left_keeps s (first_of (reply_faults e t f body)) e (ended_of e) (heard_of e t f) refl refl
       (either_keeps s refreshing (measurement_heard_of e t f) (setup_heard_of e t f)
-      (either_keeps s (is f.command K.RefreshMo) (with_pending Nothing (with_measured t (with_answered true e)))
-      (with_pending Nothing (with_answered false e)) refl refl)
+      (either_keeps s (is f.command K.RefreshMo) (with_pending None (with_measured t (with_answered true e)))
+      (with_pending None (with_answered false e)) refl refl)
       (either_keeps s f.busy (due_again_of e t) (cond (is_command_due e) (performed_of e t) (confirmed_of e t f)) refl
       (either_keeps s (is_command_due e) (performed_of e t) (confirmed_of e t f) refl refl))) in
       let of : Outcome → Kept = λ o. kept o.endpoint in

@@ -1,6 +1,6 @@
 -- Laws that serve several functions, and the laws of the calls.
 pub mod Copies
-pub mod Bodies
+pub mod Words
 pub mod Dispatch
 pub mod Firsts
 pub mod Handed

@@ -1,14 +1,14 @@
 -- Every act but a stop is done under a test or refused, and writes nothing.
 use mathlib.Core.Path.{◌≡◌, refl, sym, ap, ◌∙◌}
+use Rattle.std.specs.Prelude.{Err, Ok}
 use mathlib.Core.Bool.{Bool, true, false, ◌&&◌, not, cond, true≢false}
 use Prim.Native.Nat.{ℕ}
-use native.Mathlib.Omega.{arith}
 use lib.ListN.{length}
 use Rattle.endpoint.specs.declared.State.TheVariants.{Close}
 use Rattle.endpoint.specs.Endpoint.{Endpoint}
 use Rattle.endpoint.specs.declared.Reason.{Reason}
-use Rattle.endpoint.specs.declared.Answer.{Answer}
-use Rattle.endpoint.specs.declared.Answer.TheVariants.{Done, Dropped}
+use Rattle.endpoint.specs.Answers.{Answer}
+use Rattle.endpoint.specs.declared.Refusal.TheVariants.{Dropped}
 use Rattle.endpoint.specs.Answers.{record_faults, first_of, is_done}
 use Rattle.endpoint.specs.Table.{is_state, is_terminated}
 use Rattle.endpoint.specs.Due.{may_queue, may_queue_read}
@@ -18,16 +18,16 @@ use Rattle.steps.specs.Calls.{Outcome, outcome, dropped, hand_faults, command_da
 use Rattle.steps.specs.Steps.{Act, start, stop, restart, set_not_ready, set_result, clear_result, set_record}
 use Rattle.steps.specs.Steps.{clear_record, invoke, read_error, write_error, begins, act_of}
 
-pub not_done : (r : Reason) → Dropped r ≡ Done → ⊥
-not_done r h = let z : ◌≡◌ {A = ℕ} 0 1 = cc in omega arith
+pub not_done : (r : Reason) → ◌≡◌ {A = Answer} (Err (Dropped r)) (Ok tt) → ⊥
+not_done r h = true≢false (sym (ap is_done h))
 
 -- done where a test holds, else answered so
 abbrev plain : Bool → Endpoint → Endpoint → Answer → Outcome
-plain test next e a = cond test (outcome Done next nothing) (dropped e a)
+plain test next e a = cond test (outcome (Ok tt) next nothing) (dropped e a)
 
 -- where it is done the test holds
 pub plain_done : (test : Bool) (next e : Endpoint) (a : Answer) → (test ≡ false → is_done a ≡ false)
-    → (plain test next e a).answer ≡ Done → test ≡ true
+    → (plain test next e a).answer ≡ Ok tt → test ≡ true
 plain_done true next e a n d = refl
 plain_done false next e a n d = absurd (true≢false (sym (ap is_done d) ∙ n refl))
 
@@ -36,7 +36,7 @@ pub record Quiet (e : Endpoint) (begun : Bool) (o : Outcome) : Type 0 where
   pub writes : o.writes ≡ nothing
   pub settings : o.endpoint.settings ≡ e.settings
   pub requests : o.endpoint.setup.requests ≡ cond (begun && is_done o.answer) 0 e.setup.requests
-  pub drops : (r : Reason) → o.answer ≡ Dropped r → o ≡ dropped e (Dropped r)
+  pub drops : (r : Reason) → o.answer ≡ Err (Dropped r) → o ≡ dropped e (Err (Dropped r))
 
 quiet : (begun test : Bool) (next e : Endpoint) (a : Answer) → (test ≡ false → is_done a ≡ false)
     → next.settings ≡ e.settings → next.setup.requests ≡ cond begun 0 e.setup.requests

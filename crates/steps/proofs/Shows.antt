@@ -1,13 +1,11 @@
 -- What a show writes: too little room, or the value's width of bytes.
 use mathlib.Core.Path.{◌≡◌, sym, ap, ap₂, ◌∙◌}
-use mathlib.Core.Bool.{cond}
 use mathlib.Core.List.{List, ◌++◌}
 use Prim.Native.Nat.{ℕ, ◌≤◌, ◌<◌}
-use native.Mathlib.Omega.{arith}
-use lib.Dec.{leb, ltb}
+use lib.Dec.{leb}
 use lib.ListN.{length, take, drop}
-use lib.Seq.{length-take-le, take-length, take_all}
-use borrow.Author.Tests.{lt-ltb, le-ltb, leb-true, ltb-true, ltb-false}
+use lib.Seq.{length-take-le}
+use borrow.Author.Tests.{lt-ltb, le-ltb, leb-true}
 use Rattle.words.specs.Output.{over}
 use mathlib.Mathlib.Data.Bool.Basic.{and_elim_left as and_left, and_elim_right as and_right}
 use Rattle.endpoint.specs.declared.Settings.{Settings}
@@ -16,7 +14,6 @@ use Rattle.steps.specs.declared.Shown.{Shown}
 use Rattle.steps.specs.Frames.{show_width}
 use Rattle.steps.specs.Calls.{is_fail_safe, shown_of, shown_age}
 use Rattle.steps.specs.Says.{ShowSays}
-use Rattle.steps.proofs.Keeps.{bcase}
 use Rattle.steps.proofs.Whole.{show_width_length}
 
 pub show_width_le : (s : Settings) → show_width s ≤ 100
@@ -44,19 +41,3 @@ module _ (e : Endpoint) (t : ℕ) (out : List ℕ) where
         aged = g;
         output = rw l (o ∙ ap₂ (λ (y : List ℕ) (z : ℕ). y ++ drop z out) k s);
       }
-
--- the smaller of a list's length and n
-module _ (l : List ℕ) (n : ℕ) where
-  abbrev most : ℕ
-  most = cond (ltb (length l) n) (length l) n
-
-  pub most_le : most ≤ length l
-  most_le = bcase (ltb (length l) n) (λ h. rw h (omega arith)) (λ h. rw h (ltb-false (length l) n h))
-
-  pub most_small : most ≤ n
-  most_small = bcase (ltb (length l) n) (λ h. let k = ltb-true (length l) n h in rw h (omega arith)) (λ h. rw h (omega arith))
-
-  pub take_most : take most l ≡ take n l
-  take_most =
-      bcase (ltb (length l) n)
-      (λ h. let k = ltb-true (length l) n h in rw h (take-length l ∙ sym (take_all n l (omega arith)))) (λ h. rw h)

@@ -1,5 +1,7 @@
 -- No call but a show looks at the bytes of the value held: each of its ends keeps the value, wipes it or fills it.
 use mathlib.Core.Path.{◌≡◌, refl, sym, ap, ◌∙◌}
+use Rattle.std.specs.Prelude.{Err, Ok}
+use Rattle.std.specs.Prelude.{None}
 use mathlib.Core.Bool.{Bool, true, false, ◌&&◌, not, cond, beq, true≢false}
 use mathlib.Core.List.{List}
 use Prim.Native.Nat.{ℕ, ◌/◌}
@@ -11,9 +13,8 @@ use Rattle.endpoint.specs.declared.State.TheVariants.{Close, Refresh}
 use Rattle.endpoint.specs.Endpoint.{Endpoint, words_of, value_of}
 use Rattle.endpoint.specs.declared.Reason.{Reason}
 use Rattle.endpoint.specs.declared.Reason.TheVariants as R
-use Rattle.endpoint.specs.declared.Pending.TheVariants.{Nothing}
-use Rattle.endpoint.specs.declared.Answer.{Answer}
-use Rattle.endpoint.specs.declared.Answer.TheVariants.{Done, Dropped, Ended}
+use Rattle.endpoint.specs.Answers.{Answer}
+use Rattle.endpoint.specs.declared.Refusal.TheVariants.{Dropped, Ended}
 use Rattle.endpoint.specs.Answers.{record_faults, first_of, is_done, is_dropped, left_by}
 use Rattle.endpoint.specs.Table.{is_state, is_terminated}
 use Rattle.endpoint.specs.Due.{is_command_due, is_held_back, may_queue, may_queue_read, refresh_due}
@@ -39,7 +40,7 @@ use Rattle.steps.proofs.Dispatch.{cond_false}
 use Rattle.steps.proofs.Keeps.{bcase}
 
 -- a refusal accepts nothing
-refuses : (k : Call) (r : Reason) → accepts k (Dropped r) ≡ false
+refuses : (k : Call) (r : Reason) → accepts k (Err (Dropped r)) ≡ false
 refuses (act a) r = refl
 refuses (send value) r = refl
 refuses (deliver f body) r = refl
@@ -64,9 +65,9 @@ module _ (e : Endpoint) (b : List ℕ) (h : Tidy (with_bytes b e)) where
   wiped a x w =
       record { answered = refl; writes = refl; left = refl; taken = λ p n. absurd (true≢false (sym p)) }
 
-  filled : {k : Call} (age : ℕ) (x : Endpoint) (w : Written) → accepts k Done ≡ true
+  filled : {k : Call} (age : ℕ) (x : Endpoint) (w : Written) → accepts k (Ok tt) ≡ true
       → let y = holding (value_of true age (padded_of (body_in k))) x in
-      Left k (outcome Done y w) (outcome Done y w)
+      Left k (outcome (Ok tt) y w) (outcome (Ok tt) y w)
   filled age x w y =
       record { answered = refl; writes = refl; left = rw y; taken = λ p n. absurd (true≢false (sym y ∙ n)) }
 
@@ -75,69 +76,69 @@ module _ (e : Endpoint) (b : List ℕ) (h : Tidy (with_bytes b e)) where
   either true p q = p
   either false p q = q
 
-  leaves : {k : Call} {x x' y y' : Endpoint} {w : Written} (c : Bool) → Left k (outcome Done x w) (outcome Done x' w)
-      → Left k (outcome Done y w) (outcome Done y' w)
-      → Left k (outcome Done (cond c x y) w) (outcome Done (cond c x' y') w)
+  leaves : {k : Call} {x x' y y' : Endpoint} {w : Written} (c : Bool) → Left k (outcome (Ok tt) x w) (outcome (Ok tt) x' w)
+      → Left k (outcome (Ok tt) y w) (outcome (Ok tt) y' w)
+      → Left k (outcome (Ok tt) (cond c x y) w) (outcome (Ok tt) (cond c x' y') w)
   leaves true p q = p
   leaves false p q = q
 
   by_answer : {k : Call} (a : Answer) (x : Endpoint) {y y' : Endpoint} {w : Written}
-      → Left k (outcome Done y w) (outcome Done y' w)
+      → Left k (outcome (Ok tt) y w) (outcome (Ok tt) y' w)
       → Left k (outcome a (left_by a e (holding no_value x) y) w)
       (outcome a (left_by a (with_bytes b e) (holding no_value x) y') w)
-  by_answer Done x p = p
-  by_answer {k} (Dropped r) x p = kept (Dropped r) e _ (refuses k r) refl
-  by_answer (Ended r) x p = wiped (Ended r) x _
+  by_answer (Ok _) x p = p
+  by_answer {k} (Err (Dropped r)) x p = kept (Err (Dropped r)) e _ (refuses k r) refl
+  by_answer (Err (Ended r)) x p = wiped (Err (Ended r)) x _
 
   module _ (t : ℕ) where
     act_left : (a : Act) → Left (act a) (act_of e t a) (act_of (with_bytes b e) t a)
     act_left start =
-        either (not e.settings.slave && is_state e.state Close) (wiped Done (started_of e t) nothing)
-        (kept (Dropped R.Turn) e nothing refl refl)
+        either (not e.settings.slave && is_state e.state Close) (wiped (Ok tt) (started_of e t) nothing)
+        (kept (Err (Dropped R.Turn)) e nothing refl refl)
     act_left stop =
         let a = first_of (stop_faults e t) in
-        either (is_dropped a) (kept a e nothing refl refl) (wiped Done (stopped_of e t) (disconnect_of e t))
+        either (is_dropped a) (kept a e nothing refl refl) (wiped (Ok tt) (stopped_of e t) (disconnect_of e t))
     act_left (restart number) =
-        either (is_terminated e.state) (wiped Done (restarted_of e number) nothing)
-        (kept (Dropped R.Turn) e nothing refl refl)
+        either (is_terminated e.state) (wiped (Ok tt) (restarted_of e number) nothing)
+        (kept (Err (Dropped R.Turn)) e nothing refl refl)
     act_left (set_not_ready r) =
-        either e.settings.slave (kept Done (with_not_ready r e) nothing refl refl)
-        (kept (Dropped R.Turn) e nothing refl refl)
+        either e.settings.slave (kept (Ok tt) (with_not_ready r e) nothing refl refl)
+        (kept (Err (Dropped R.Turn)) e nothing refl refl)
     act_left (set_result body) =
         let a = first_of (hand_faults e.settings.slave (length body)) in
-        either (is_done a) (kept Done (with_words (words_of (length body / 4) (padded_of body)) e) nothing refl refl)
+        either (is_done a) (kept (Ok tt) (with_words (words_of (length body / 4) (padded_of body)) e) nothing refl refl)
         (kept a e nothing refl refl)
     act_left clear_result =
-        either e.settings.slave (kept Done (with_words (words_of 0 e.words.bytes) e) nothing refl refl)
-        (kept (Dropped R.Turn) e nothing refl refl)
+        either e.settings.slave (kept (Ok tt) (with_words (words_of 0 e.words.bytes) e) nothing refl refl)
+        (kept (Err (Dropped R.Turn)) e nothing refl refl)
     act_left (invoke word bytes) =
         let handed = command_data word bytes in
         let a = first_of (hand_faults (may_queue e) (length handed)) in
-        either (is_done a) (kept Done (invoked_of e (words_of (length handed / 4) (padded_of handed))) nothing refl refl)
+        either (is_done a) (kept (Ok tt) (invoked_of e (words_of (length handed / 4) (padded_of handed))) nothing refl refl)
         (kept a e nothing refl refl)
     act_left (set_record body) =
         let a = first_of (record_faults (not e.settings.slave) (not (is_record body))) in
-        either (is_done a) (kept Done (with_error_info (kept_record body) e) nothing refl refl) (kept a e nothing refl refl)
+        either (is_done a) (kept (Ok tt) (with_error_info (kept_record body) e) nothing refl refl) (kept a e nothing refl refl)
     act_left clear_record =
-        either e.settings.slave (kept Done (with_error_info (words_of 0 e.errorinfo.bytes) e) nothing refl refl)
-        (kept (Dropped R.Turn) e nothing refl refl)
+        either e.settings.slave (kept (Ok tt) (with_error_info (words_of 0 e.errorinfo.bytes) e) nothing refl refl)
+        (kept (Err (Dropped R.Turn)) e nothing refl refl)
     act_left read_error =
-        either (may_queue_read e) (kept Done (read_queued_of e) nothing refl refl)
-        (kept (Dropped R.Turn) e nothing refl refl)
+        either (may_queue_read e) (kept (Ok tt) (read_queued_of e) nothing refl refl)
+        (kept (Err (Dropped R.Turn)) e nothing refl refl)
     act_left (write_error body) =
         let a = first_of (record_faults (not (may_queue e)) (not (is_record body))) in
-        either (is_done a) (kept Done (write_queued_of e (kept_record body)) nothing refl refl) (kept a e nothing refl refl)
+        either (is_done a) (kept (Ok tt) (write_queued_of e (kept_record body)) nothing refl refl) (kept a e nothing refl refl)
 
     send_left : (value : List ℕ) → Left (send value) (send_of e t value) (send_of (with_bytes b e) t value)
     send_left value =
         let a = first_of (send_faults e t (length value)) in
         either (is_done a)
         (either (is_state e.state Refresh)
-        (either (is_value_due e t) (kept Done (refresh_sent_of e t) (frame (refresh_fields e t) value) refl refl)
-        (kept Done (measurement_sent_of e (refresh_due e t) t)
+        (either (is_value_due e t) (kept (Ok tt) (refresh_sent_of e t) (frame (refresh_fields e t) value) refl refl)
+        (kept (Ok tt) (measurement_sent_of e (refresh_due e t) t)
         (frame (measurement_fields e (refresh_due e t) t) (setup_data e.settings (refresh_due e t))) refl refl))
-        (kept Done (requested_of e t) (frame (request_fields e t) (due_data e)) refl refl))
-        (by_answer a (ended_of e) (kept Done e nothing refl refl))
+        (kept (Ok tt) (requested_of e t) (frame (request_fields e t) (due_data e)) refl refl))
+        (by_answer a (ended_of e) (kept (Ok tt) e nothing refl refl))
 
     module _ (f : Fields) (body : List ℕ) where
       refresh_left : is f.command K.Refresh ≡ true
@@ -152,26 +153,26 @@ module _ (e : Endpoint) (b : List ℕ) (h : Tidy (with_bytes b e)) where
 
       module _ (n : is f.command K.Refresh ≡ false) where
         taken_left : (w : Written)
-            → Left (deliver f body) (outcome Done (taken_of e t f more) w)
-            (outcome Done (taken_of (with_bytes b e) t f more) w)
+            → Left (deliver f body) (outcome (Ok tt) (taken_of e t f more) w)
+            (outcome (Ok tt) (taken_of (with_bytes b e) t f more) w)
         taken_left w =
-            leaves (is f.command K.Disconnect) (wiped Done (ended_by e f.timestamp) w)
-            (leaves (is f.command K.WriteErrorInfo) (wiped Done (reported_of e f.timestamp more) w)
+            leaves (is f.command K.Disconnect) (wiped (Ok tt) (ended_by e f.timestamp) w)
+            (leaves (is f.command K.WriteErrorInfo) (wiped (Ok tt) (reported_of e f.timestamp more) w)
             (leaves (is_state e.state Refresh)
-            (leaves (is f.command K.RefreshMo) (kept Done (remeasured_of e t f) w n refl)
-            (kept Done (adjusted_of e f) w n refl))
-            (leaves (is_held_back e f.command) (kept Done (deferred_of e t f) w n refl)
-            (wiped Done (advanced_of e t f) w))))
+            (leaves (is f.command K.RefreshMo) (kept (Ok tt) (remeasured_of e t f) w n refl)
+            (kept (Ok tt) (adjusted_of e f) w n refl))
+            (leaves (is_held_back e f.command) (kept (Ok tt) (deferred_of e t f) w n refl)
+            (wiped (Ok tt) (advanced_of e t f) w))))
 
         heard_left : (w : Written)
-            → Left (deliver f body) (outcome Done (heard_of e t f) w) (outcome Done (heard_of (with_bytes b e) t f) w)
+            → Left (deliver f body) (outcome (Ok tt) (heard_of e t f) w) (outcome (Ok tt) (heard_of (with_bytes b e) t f) w)
         heard_left w =
             leaves (is_state e.state Refresh)
             (leaves (is f.command K.RefreshMo)
-            (kept Done (with_pending Nothing (with_measured t (with_answered true e))) w n refl)
-            (kept Done (with_pending Nothing (with_answered false e)) w n refl))
-            (leaves f.busy (kept Done (due_again_of e t) w n refl)
-            (leaves (is_command_due e) (kept Done (performed_of e t) w n refl) (wiped Done (confirmed_of e t f) w)))
+            (kept (Ok tt) (with_pending None (with_measured t (with_answered true e))) w n refl)
+            (kept (Ok tt) (with_pending None (with_answered false e)) w n refl))
+            (leaves f.busy (kept (Ok tt) (due_again_of e t) w n refl)
+            (leaves (is_command_due e) (kept (Ok tt) (performed_of e t) w n refl) (wiped (Ok tt) (confirmed_of e t f) w)))
 
         request_left : Left (deliver f body) (take_request e t f body) (take_request (with_bytes b e) t f body)
         request_left = by_answer (first_of (request_faults e t f body)) (ended_by e f.timestamp) (taken_left _)
@@ -181,7 +182,7 @@ module _ (e : Endpoint) (b : List ℕ) (h : Tidy (with_bytes b e)) where
 
       deliver_left : Left (deliver f body) (deliver_of e t f body) (deliver_of (with_bytes b e) t f body)
       deliver_left =
-          either (beq f.application e.settings.slave) (kept (Dropped R.Echo) e nothing refl refl)
+          either (beq f.application e.settings.slave) (kept (Err (Dropped R.Echo)) e nothing refl refl)
           (bcase (is f.command K.Refresh) (λ y. rw y (refresh_left y))
           (λ n. rw n (either e.settings.slave (request_left n) (reply_left n))))
 

@@ -1,6 +1,7 @@
 -- A frame that can be written is written whole to an output of 248 bytes or more; and every frame that an endpoint
 -- writes can be.
 use mathlib.Core.Path.{◌≡◌, refl, ◌∙◌}
+use Rattle.std.specs.Prelude.{Option, ℕ}
 use mathlib.Core.Bool.{Bool, true, false, ◌&&◌, ◌||◌, not, cond, or-true}
 use mathlib.Core.List.{List}
 use Prim.Native.Nat.{ℕ, ◌+◌, ◌-◌, ◌*◌, ◌%◌, ◌^◌, ◌≤◌, ◌<◌}
@@ -11,7 +12,6 @@ use lib.Seq.{length-take-le, take_all}
 use borrow.Author.Tests.{le-leb, leb-true, leb-false, lt-ltb, eq-eqb}
 use Rattle.frame.specs.declared.Command.{Command}
 use Rattle.frame.specs.declared.Command.TheVariants as K
-use Rattle.frame.specs.declared.Subconnection.{Subconnection}
 use Rattle.frame.specs.declared.Fields.{Fields}
 use Rattle.frame.specs.Control.{is, is_absent, waits_for_station, may_be_busy, is_joined, has_form}
 use Rattle.frame.specs.Writing.{frame_bytes, is_body_length, is_writable, written_of, head_of, HeadSays}
@@ -163,13 +163,13 @@ reply_length e k done body l =
 
 -- ---- the form of each frame
 -- a request carries no session number, or is not S-Connect
-abbrev Carried : Subconnection → Command → Type 0
+abbrev Carried : Option ℕ → Command → Type 0
 Carried n k = (is_absent n || not (is k K.Connect)) ≡ true
 
 carried : (e : Endpoint) (k : Command) → Carried (session_with e k) k
 carried e k = bcase (is k K.Connect) (λ h. rw h) (λ h. rw h (or-true (is_absent (session_of e))))
 
-request_form : (s : State) (n : Subconnection) (connection timestamp t measured : ℕ) → Carried n (request_of s)
+request_form : (s : State) (n : Option ℕ) (connection timestamp t measured : ℕ) → Carried n (request_of s)
     → has_form (sent_fields (request_of s) false false n connection timestamp (baseline_of (request_of s) t measured)) ≡ true
 unfolding has_form
 request_form Close n connection timestamp t measured c = c
@@ -192,7 +192,7 @@ baseline_fits_law k t measured = go (is k K.RefreshGo)
     go false = lit< tt
 
 -- a reply: to any command but S-Refresh and S-Disconnect
-reply_form : (k : Command) (busy error sequence : Bool) (n : Subconnection) (connection timestamp : ℕ)
+reply_form : (k : Command) (busy error sequence : Bool) (n : Option ℕ) (connection timestamp : ℕ)
     → is k K.Refresh ≡ false → is k K.Disconnect ≡ false → (not busy || may_be_busy k) ≡ true
     → (not sequence || is_joined k) ≡ true → has_form (ack_fields k busy error sequence n connection timestamp) ≡ true
 unfolding has_form
@@ -205,7 +205,7 @@ joined_fits true s = or-true (not s)
 joined_fits false s = refl
 
 -- S-RefreshGO in Refresh, or S-RefreshMO
-measurement_form : (go sequence : Bool) (n : Subconnection) (connection timestamp t measured : ℕ)
+measurement_form : (go sequence : Bool) (n : Option ℕ) (connection timestamp t measured : ℕ)
     → let k = cond go K.RefreshGo K.RefreshMo in
     has_form (sent_fields k sequence false n connection timestamp (baseline_of k t measured)) ≡ true
 unfolding has_form
@@ -213,7 +213,7 @@ measurement_form true sequence n connection timestamp t measured =
     rw (or-true (eqb ((t - measured) % 65536) 0), or-true (not sequence), or-true (is_absent n))
 measurement_form false sequence n connection timestamp t measured = rw (or-true (not sequence), or-true (is_absent n))
 
-queued_form : (q : Queue) (n : Subconnection) (connection timestamp t measured : ℕ) → Carried n (queued_in q)
+queued_form : (q : Queue) (n : Option ℕ) (connection timestamp t measured : ℕ) → Carried n (queued_in q)
     → has_form (sent_fields (queued_in q) false false n connection timestamp (baseline_of (queued_in q) t measured)) ≡ true
 unfolding has_form
 queued_form Q.Empty n connection timestamp t measured c = c
@@ -223,7 +223,7 @@ queued_form Q.WriteErrorInfo n connection timestamp t measured c = c
 queued_form Q.Closed n connection timestamp t measured c = c
 
 -- the queued command in S-RefreshReady's place
-due_form : (e : Endpoint) (n : Subconnection) (connection timestamp t measured : ℕ) → Carried n (request_due e)
+due_form : (e : Endpoint) (n : Option ℕ) (connection timestamp t measured : ℕ) → Carried n (request_due e)
     → has_form (sent_fields (request_due e) false false n connection timestamp (baseline_of (request_due e) t measured)) ≡ true
 due_form e n connection timestamp t measured c =
     bcase (is_command_due e) (λ h. rw h (queued_form e.setup.queue n connection timestamp t measured (rw h at c)))

@@ -1,6 +1,8 @@
 -- What each user's call does: start, send, stop, restart, set not ready, set and clear result, set and clear record,
 -- invoke, read error, write error, show.
-use Rattle.std.specs.Prelude.{Bool, true, false, ◌&&◌, ◌||◌, not, cond, List, ◌++◌, ℕ, ◌/◌, eqb, length, take, replicate}
+use Rattle.std.specs.Prelude.{Bool, false, ◌&&◌, ◌||◌, not, cond, List, ◌++◌, ℕ, ◌/◌, eqb, length, take, replicate}
+use Rattle.std.specs.Prelude.{Err, Ok}
+use Rattle.std.specs.Prelude.{None, Option, Some}
 use Rattle.frame.specs.declared.Command.{Command}
 use Rattle.frame.specs.declared.Command.TheVariants as K
 use Rattle.frame.specs.Control.{is}
@@ -9,11 +11,9 @@ use Rattle.words.specs.Words.{word_bytes}
 use Rattle.errors.specs.Reading.{is_record}
 use Rattle.endpoint.specs.declared.State.TheVariants.{Close, Refresh}
 use Rattle.endpoint.specs.Endpoint.{Endpoint, Words, words_of}
-use Rattle.endpoint.specs.declared.Age.{Age}
-use Rattle.endpoint.specs.declared.Age.TheVariants.{None, Ticks}
 use Rattle.endpoint.specs.declared.Reason.TheVariants as R
-use Rattle.endpoint.specs.declared.Answer.{Answer}
-use Rattle.endpoint.specs.declared.Answer.TheVariants.{Done, Dropped}
+use Rattle.endpoint.specs.Answers.{Answer}
+use Rattle.endpoint.specs.declared.Refusal.TheVariants.{Dropped}
 use Rattle.endpoint.specs.declared.Faults.{Faults}
 use Rattle.endpoint.specs.Answers.{call_faults, record_faults, first_of, is_done, is_dropped, left_by}
 use Rattle.endpoint.specs.Table.{is_state, is_terminated}
@@ -45,18 +45,18 @@ refused e a = outcome a (left_by a e (ended_of e) e) nothing
 -- ---- start: a master's, in Close
 abbrev pub start_of : Endpoint → ℕ → Outcome
 start_of e t =
-    cond (not e.settings.slave && is_state e.state Close) (outcome Done (started_of e t) nothing)
-    (dropped e (Dropped R.Turn))
+    cond (not e.settings.slave && is_state e.state Close) (outcome (Ok tt) (started_of e t) nothing)
+    (dropped e (Err (Dropped R.Turn)))
 
 -- ---- restart: from Terminate, with a session number
 abbrev pub restart_of : Endpoint → ℕ → Outcome
 restart_of e number =
-    cond (is_terminated e.state) (outcome Done (restarted_of e number) nothing) (dropped e (Dropped R.Turn))
+    cond (is_terminated e.state) (outcome (Ok tt) (restarted_of e number) nothing) (dropped e (Err (Dropped R.Turn)))
 
 -- ---- not ready, set or cleared: a slave's, in any state
 abbrev pub set_not_ready_of : Endpoint → Bool → Outcome
 set_not_ready_of e b =
-    cond e.settings.slave (outcome Done (with_not_ready b e) nothing) (dropped e (Dropped R.Turn))
+    cond e.settings.slave (outcome (Ok tt) (with_not_ready b e) nothing) (dropped e (Err (Dropped R.Turn)))
 
 -- ---- S-Data that a user hands over: 1 to 25 words, or 12
 -- of a call that hands over so many bytes, and has its turn or not
@@ -67,7 +67,7 @@ hand_faults turn n = call_faults (not turn) (not (is_body_length n)) false false
 abbrev pub result_with : Endpoint → ℕ → List ℕ → Outcome
 result_with e n bytes =
     let a = first_of (hand_faults e.settings.slave n) in
-    cond (is_done a) (outcome Done (with_words (words_of (n / 4) bytes) e) nothing) (dropped e a)
+    cond (is_done a) (outcome (Ok tt) (with_words (words_of (n / 4) bytes) e) nothing) (dropped e a)
 
 abbrev pub set_result_of : Endpoint → List ℕ → Outcome
 set_result_of e body = result_with e (length body) (padded_of body)
@@ -75,14 +75,14 @@ set_result_of e body = result_with e (length body) (padded_of body)
 -- cleared: it has no words; the bytes stay, and nobody looks at them
 abbrev pub clear_result_of : Endpoint → Outcome
 clear_result_of e =
-    cond e.settings.slave (outcome Done (with_words (words_of 0 e.words.bytes) e) nothing)
-    (dropped e (Dropped R.Turn))
+    cond e.settings.slave (outcome (Ok tt) (with_words (words_of 0 e.words.bytes) e) nothing)
+    (dropped e (Err (Dropped R.Turn)))
 
 -- S-InvokeFunc, queued by a master's user in setup: n bytes of S-Data, from the front of these
 abbrev pub invoke_with : Endpoint → ℕ → List ℕ → Outcome
 invoke_with e n bytes =
     let a = first_of (hand_faults (may_queue e) n) in
-    cond (is_done a) (outcome Done (invoked_of e (words_of (n / 4) bytes)) nothing) (dropped e a)
+    cond (is_done a) (outcome (Ok tt) (invoked_of e (words_of (n / 4) bytes)) nothing) (dropped e a)
 
 -- the command word, and 0 to 24 further words
 abbrev pub command_data : ℕ → List ℕ → List ℕ
@@ -99,7 +99,7 @@ kept_record body = words_of (length body / 4) (padded_record body)
 abbrev pub record_with : Bool → Endpoint → Endpoint → List ℕ → Outcome
 record_with turn next e body =
     let a = first_of (record_faults (not turn) (not (is_record body))) in
-    cond (is_done a) (outcome Done next nothing) (dropped e a)
+    cond (is_done a) (outcome (Ok tt) next nothing) (dropped e a)
 
 -- the station's own, set by a slave's user in any state
 abbrev pub set_record_of : Endpoint → List ℕ → Outcome
@@ -108,8 +108,8 @@ set_record_of e body = record_with e.settings.slave (with_error_info (kept_recor
 -- cleared: it has no words; the bytes stay, and nobody looks at them
 abbrev pub clear_record_of : Endpoint → Outcome
 clear_record_of e =
-    cond e.settings.slave (outcome Done (with_error_info (words_of 0 e.errorinfo.bytes) e) nothing)
-    (dropped e (Dropped R.Turn))
+    cond e.settings.slave (outcome (Ok tt) (with_error_info (words_of 0 e.errorinfo.bytes) e) nothing)
+    (dropped e (Err (Dropped R.Turn)))
 
 -- S-WriteErrorInfo, queued by a master's user in setup
 abbrev pub write_error_of : Endpoint → List ℕ → Outcome
@@ -117,7 +117,7 @@ write_error_of e body = record_with (may_queue e) (write_queued_of e (kept_recor
 
 -- S-ReadErrorInfo, queued by a master's user in setup, until S-InvokeFunc has gone
 abbrev pub read_error_of : Endpoint → Outcome
-read_error_of e = cond (may_queue_read e) (outcome Done (read_queued_of e) nothing) (dropped e (Dropped R.Turn))
+read_error_of e = cond (may_queue_read e) (outcome (Ok tt) (read_queued_of e) nothing) (dropped e (Err (Dropped R.Turn)))
 
 -- ---- send: a master's next request in setup if none is pending; in Refresh a measurement's, or S-Refresh
 -- it writes the value that is lent; S-RefreshMO and S-RefreshGO go whatever it is
@@ -138,15 +138,15 @@ send_faults e t width = send_faults_at e t (time_of e t) width
 -- what a send of S-RefreshMO or S-RefreshGO in Refresh comes to
 abbrev pub measurement_outcome : Endpoint → Command → ℕ → Outcome
 measurement_outcome e k t =
-    outcome Done (measurement_sent_of e k t) (frame (measurement_fields e k t) (setup_data e.settings k))
+    outcome (Ok tt) (measurement_sent_of e k t) (frame (measurement_fields e k t) (setup_data e.settings k))
 
 -- what a send that is done comes to
 abbrev pub sent_of : Endpoint → ℕ → List ℕ → Outcome
 sent_of e t value =
     cond (is_state e.state Refresh)
-    (cond (is_value_due e t) (outcome Done (refresh_sent_of e t) (frame (refresh_fields e t) value))
+    (cond (is_value_due e t) (outcome (Ok tt) (refresh_sent_of e t) (frame (refresh_fields e t) value))
     (measurement_outcome e (refresh_due e t) t))
-    (outcome Done (requested_of e t) (frame (request_fields e t) (due_data e)))
+    (outcome (Ok tt) (requested_of e t) (frame (request_fields e t) (due_data e)))
 
 abbrev pub send_of : Endpoint → ℕ → List ℕ → Outcome
 send_of e t value =
@@ -171,7 +171,7 @@ disconnect_of e t = cond e.settings.slave nothing
 abbrev pub stop_of : Endpoint → ℕ → Outcome
 stop_of e t =
     cond (is_dropped (first_of (stop_faults e t))) (dropped e (first_of (stop_faults e t)))
-    (outcome Done (stopped_of e t) (disconnect_of e t))
+    (outcome (Ok tt) (stopped_of e t) (disconnect_of e t))
 
 -- ---- show: the last value accepted in this Refresh; else fail-safe, zero bytes of the same width
 abbrev pub is_fail_safe : Endpoint → Bool
@@ -185,5 +185,5 @@ abbrev pub shown_of : Endpoint → List ℕ
 shown_of e = take (show_width e.settings) (held_or (is_fail_safe e) e.value.bytes)
 
 -- and how old it is; a fail-safe show has no age
-abbrev pub shown_age : Endpoint → ℕ → Age
-shown_age e t = cond (is_fail_safe e) None (Ticks (held_age e t))
+abbrev pub shown_age : Endpoint → ℕ → Option ℕ
+shown_age e t = cond (is_fail_safe e) None (Some (held_age e t))

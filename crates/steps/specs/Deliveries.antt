@@ -1,9 +1,10 @@
 -- What a frame of this connection does when it is delivered: fields and body as the reader gives them.
 use Rattle.std.specs.Prelude.{Bool, ◌&&◌, ◌||◌, not, cond, List, ℕ, eqb, length}
+use Rattle.std.specs.Prelude.{Err}
+use Rattle.std.specs.Prelude.{Option}
 use Rattle.std.specs.Bool.{beq}
 use Rattle.frame.specs.declared.Command.{Command}
 use Rattle.frame.specs.declared.Command.TheVariants as K
-use Rattle.frame.specs.declared.Subconnection.{Subconnection}
 use Rattle.frame.specs.declared.Fields.{Fields}
 use Rattle.frame.specs.Control.{is, is_joined, is_absent, is_same}
 use Rattle.frame.specs.Writing.{is_body_length}
@@ -13,8 +14,8 @@ use Rattle.endpoint.specs.declared.State.TheVariants.{Refresh}
 use Rattle.endpoint.specs.declared.Settings.{Settings}
 use Rattle.endpoint.specs.Endpoint.{Endpoint}
 use Rattle.endpoint.specs.declared.Reason.TheVariants as R
-use Rattle.endpoint.specs.declared.Answer.{Answer}
-use Rattle.endpoint.specs.declared.Answer.TheVariants.{Dropped}
+use Rattle.endpoint.specs.Answers.{Answer}
+use Rattle.endpoint.specs.declared.Refusal.TheVariants.{Dropped}
 use Rattle.endpoint.specs.declared.Faults.{Faults}
 use Rattle.endpoint.specs.Answers.{setup_faults, value_faults, first_of, is_done, is_dropped, is_ended, left_by}
 use Rattle.endpoint.specs.Table.{is_state, is_setup, next_of, is_no}
@@ -29,12 +30,12 @@ use Rattle.steps.specs.Calls.{Outcome, outcome, dropped}
 
 -- ---- the session number
 -- another number than the endpoint's own, or none where it has one: number 21
-abbrev pub is_foreign : Endpoint → Subconnection → Bool
+abbrev pub is_foreign : Endpoint → Option ℕ → Bool
 is_foreign e session = not (is_same (session_of e) session)
 
 -- ---- S-Refresh, at either end
 -- whose timestamp has this age
-abbrev pub refresh_faults_at : Endpoint → ℕ → Subconnection → ℕ → ℕ → Faults
+abbrev pub refresh_faults_at : Endpoint → ℕ → Option ℕ → ℕ → ℕ → Faults
 refresh_faults_at e age session stamp width =
     value_faults (not (is_state e.state Refresh)) (is_foreign e session) (not (eqb width (show_width e.settings)))
     (not (is_above e.timestamps.accepted stamp))
@@ -42,10 +43,10 @@ refresh_faults_at e age session stamp width =
     (is_too_late age e.settings.age)
 
 -- the same, by the endpoint's time
-abbrev pub refresh_faults : Endpoint → ℕ → Subconnection → ℕ → ℕ → Faults
+abbrev pub refresh_faults : Endpoint → ℕ → Option ℕ → ℕ → ℕ → Faults
 refresh_faults e t session stamp width = refresh_faults_at e (age_of e t stamp) session stamp width
 
-abbrev pub take_refresh : Endpoint → ℕ → Subconnection → ℕ → List ℕ → Outcome
+abbrev pub take_refresh : Endpoint → ℕ → Option ℕ → ℕ → List ℕ → Outcome
 take_refresh e t session stamp body =
     let a = first_of (refresh_faults e t session stamp (length body)) in
     outcome a (left_by a e (ended_of e) (refreshed_of e t stamp (padded_of body))) nothing
@@ -145,6 +146,6 @@ take_reply e t f body =
 -- ---- a frame of this connection: one's own reflected first (number 10), then by its command and the role
 abbrev pub deliver_of : Endpoint → ℕ → Fields → List ℕ → Outcome
 deliver_of e t f body =
-    cond (beq f.application e.settings.slave) (dropped e (Dropped R.Echo))
+    cond (beq f.application e.settings.slave) (dropped e (Err (Dropped R.Echo)))
     (cond (is f.command K.Refresh) (take_refresh e t f.subconnection f.timestamp body)
     (cond e.settings.slave (take_request e t f body) (take_reply e t f body)))

@@ -1,9 +1,8 @@
 -- The frames that an endpoint writes: fields and body.
 use Rattle.std.specs.Prelude.{Bool, true, false, ◌&&◌, ◌||◌, not, cond, List, [], ◌∷◌, ◌++◌, ℕ, ◌+◌, ◌-◌, ◌*◌, ◌%◌, eqb, leb, length, take, drop, replicate}
+use Rattle.std.specs.Prelude.{None, Option}
 use Rattle.frame.specs.declared.Command.{Command}
 use Rattle.frame.specs.declared.Command.TheVariants as K
-use Rattle.frame.specs.declared.Subconnection.{Subconnection}
-use Rattle.frame.specs.declared.Subconnection.TheVariants.{Absent}
 use Rattle.frame.specs.declared.Fields.{Fields}
 use Rattle.words.specs.Words.{word_bytes}
 use Rattle.frame.specs.Control.{is, is_joined, narrowed}
@@ -97,14 +96,14 @@ abbrev pub show_width : Settings → ℕ
 show_width s = width_of (cond s.slave s.masterwords s.slavewords)
 
 -- the session number that an endpoint's frames carry (of 16 bits), if it has one; an S-Connect request carries none
-abbrev pub session_of : Endpoint → Subconnection
+abbrev pub session_of : Endpoint → Option ℕ
 session_of e = narrowed e.session
 
-abbrev pub session_with : Endpoint → Command → Subconnection
-session_with e k = cond (is k K.Connect) Absent (session_of e)
+abbrev pub session_with : Endpoint → Command → Option ℕ
+session_with e k = cond (is k K.Connect) None (session_of e)
 
 -- a frame that is no reply: a request, S-Refresh or S-Disconnect; Application tells the direction
-abbrev pub sent_fields : Command → Bool → Bool → Subconnection → ℕ → ℕ → ℕ → Fields
+abbrev pub sent_fields : Command → Bool → Bool → Option ℕ → ℕ → ℕ → ℕ → Fields
 sent_fields k sequence application session connection timestamp baseline = record {
   command = k;
   ack = false;
@@ -119,7 +118,7 @@ sent_fields k sequence application session connection timestamp baseline = recor
 }
 
 -- a slave's reply
-abbrev pub ack_fields : Command → Bool → Bool → Bool → Subconnection → ℕ → ℕ → Fields
+abbrev pub ack_fields : Command → Bool → Bool → Bool → Option ℕ → ℕ → ℕ → Fields
 ack_fields k busy error sequence session connection timestamp = record {
   command = k;
   ack = true;

@@ -1,11 +1,12 @@
 -- How a function's result and its lent output stand to an outcome.
 use Rattle.std.specs.Prelude.{◌≡◌, cond, List, [], ℕ, ◌≤◌, ltb, length, take}
+use Rattle.std.specs.Prelude.{Err}
 use Rattle.words.specs.Output.{over}
 use Rattle.endpoint.specs.declared.Core.{Core}
 use Rattle.endpoint.specs.Endpoint.{Endpoint, core_of}
 use Rattle.endpoint.specs.declared.Reason.TheVariants as R
-use Rattle.endpoint.specs.declared.Answer.{Answer}
-use Rattle.endpoint.specs.declared.Answer.TheVariants.{Dropped}
+use Rattle.endpoint.specs.Answers.{Answer}
+use Rattle.endpoint.specs.declared.Refusal.TheVariants.{Dropped}
 use Rattle.steps.specs.declared.Stepped.{Stepped}
 use Rattle.steps.specs.declared.Shown.{Shown}
 use Rattle.steps.specs.declared.Body.{Body}
@@ -14,7 +15,7 @@ use Rattle.steps.specs.Calls.{Outcome, dropped, is_fail_safe, shown_of, shown_ag
 
 -- number 2: the lent output is under 248 bytes
 abbrev pub with_room : ℕ → Endpoint → Outcome → Outcome
-with_room room e o = cond (ltb room 248) (dropped e (Dropped R.Buffer)) o
+with_room room e o = cond (ltb room 248) (dropped e (Err (Dropped R.Buffer))) o
 
 -- S-Data: the first bytes of an array
 abbrev pub bytes_in : Body → List ℕ

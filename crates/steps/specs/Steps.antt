@@ -1,9 +1,10 @@
 -- Every call on an endpoint, and what it comes to.
 use Rattle.std.specs.Prelude.{Bool, true, false, cond, List, ℕ}
+use Rattle.std.specs.Prelude.{Err, Ok}
 use Rattle.frame.specs.declared.Fields.{Fields}
 use Rattle.endpoint.specs.Endpoint.{Endpoint}
 use Rattle.endpoint.specs.declared.Reason.TheVariants as R
-use Rattle.endpoint.specs.declared.Answer.TheVariants.{Done, Ended}
+use Rattle.endpoint.specs.declared.Refusal.TheVariants.{Ended}
 use Rattle.endpoint.specs.Time.{is_expired, ended_of}
 use Rattle.steps.specs.Frames as W
 use Rattle.steps.specs.Calls.{Outcome, outcome, start_of, send_of, stop_of, restart_of, set_not_ready_of, set_result_of}
@@ -63,8 +64,8 @@ abbrev pub step_of : Endpoint → ℕ → Call → Outcome
 step_of e t (act a) = act_of e t a
 step_of e t (send value) = send_of e t value
 step_of e t (deliver f body) = deliver_of e t f body
-step_of e t show = outcome Done e (W.value (shown_of e))
+step_of e t show = outcome (Ok tt) e (W.value (shown_of e))
 
 -- the clock step first: number 9
 abbrev pub call_of : Endpoint → ℕ → Call → Outcome
-call_of e t call = cond (is_expired e t) (outcome (Ended R.Expired) (ended_of e) W.nothing) (step_of e t call)
+call_of e t call = cond (is_expired e t) (outcome (Err (Ended R.Expired)) (ended_of e) W.nothing) (step_of e t call)

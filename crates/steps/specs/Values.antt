@@ -5,7 +5,7 @@ use Rattle.std.specs.Prelude.{◌≡◌, Bool, true, false, ◌&&◌, cond, List
 use Rattle.frame.specs.declared.Command.TheVariants as K
 use Rattle.frame.specs.Control.{is}
 use Rattle.endpoint.specs.Endpoint.{Endpoint, words_of, value_of}
-use Rattle.endpoint.specs.declared.Answer.{Answer}
+use Rattle.endpoint.specs.Answers.{Answer}
 use Rattle.endpoint.specs.Answers.{is_done}
 use Rattle.endpoint.specs.Table.{request_of}
 use Rattle.endpoint.specs.Time.{Tidy, ended_of, after_tick}

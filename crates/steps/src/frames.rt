@@ -1,10 +1,8 @@
 // The frames that an endpoint writes: the data of setup requests, the width of values, and the fields of each frame.
-ghost use Rattle.std.specs.Prelude.{◌≡◌, false, ◌++◌, ◌≤◌, length, replicate};
+ghost use Rattle.std.specs.Prelude.{◌≡◌, false, ◌++◌, ◌&&◌, ◌*◌, ◌≤◌, cond, leb, length, replicate, take};
 ghost use Rattle.endpoint.specs.Due.{request_due};
-ghost use Rattle.endpoint.specs.Endpoint.{bare, words_of};
-ghost use Rattle.words.specs.Bytes.{same};
-ghost use Rattle.words.specs.Words.{word_bytes};
-ghost use Rattle.steps.specs.Frames.{setup_data, is_count, width_of, handed_over, is_record_count, record_width, record_in};
+ghost use Rattle.endpoint.specs.Endpoint.{bare};
+ghost use Rattle.steps.specs.Frames.{words_bytes, setup_data, padded_of, width_of};
 ghost use Rattle.steps.specs.Frames.{due_data, send_width, show_width, session_of, session_with, sent_fields, baseline_of};
 ghost use Rattle.steps.specs.Frames.{reply_fields};
 ghost use Rattle.steps.specs.Frames.{is_performed, is_busy, has_record, reply_data};
@@ -13,140 +11,147 @@ ghost use Rattle.steps.specs.Values.{with_handed};
 ghost use Rattle.frame.specs.Writing.{HeadSays};
 ghost use Rattle.transitions.specs.ByCall.{measurement_after};
 
-use super::Body;
 use super::queue::padded;
-use endpoint::due::{is_held_back, passed, request_due};
+use super::{Body, HandedOver};
 use endpoint::{Core, Settings};
-use frame::control::{is, is_joined, narrowed};
+use frame::control::is_joined;
 use frame::write::write_head;
-use frame::{Command, Fields, Head, Subconnection, TIMESTAMP_MODULUS};
+use frame::{Command, Fields, Head, TIMESTAMP_MODULUS};
 use transitions::by_call::measurement_after;
-use words::{put_word, same};
+use words::put_word;
 
-fn four_words(a: u32, b: u32, c: u32, d: u32) -> [u8; 100]
-    ensures { result ≡ word_bytes a ++ (word_bytes b ++ (word_bytes c ++ (word_bytes d ++ replicate 84 0))) }
-{
-    let mut bytes = [0u8; 100];
-    put_word(&mut bytes, 0, a);
-    put_word(&mut bytes, 4, b);
-    put_word(&mut bytes, 8, c);
-    put_word(&mut bytes, 12, d);
-    bytes
-}
+impl Body {
+    #[tactic(auto, using(crate::proofs::Words::put_turn))]
+    fn of_words(words: &[u32]) -> Body
+        requires { length words.now ≤ 25 }
+        ensures { DataSays (words_bytes words.now) result }
+    {
+        let mut bytes = [0; 100];
+        for (k, word) in words.iter().enumerate() {
+            put_word(&mut bytes, 4 * k, *word);
+        }
+        Body {
+            bytes,
+            length: 4 * words.len(),
+        }
+    }
 
-fn one_word(v: u32) -> Body
-    ensures { (result.bytes ≡ word_bytes v ++ (word_bytes 0 ++ (word_bytes 0 ++ (word_bytes 0 ++ replicate 84 0))))
-        × (result.length ≡ 4) }
-{
-    Body {
-        bytes: four_words(v, 0, 0, 0),
-        length: 4,
+    pub(crate) fn bytes(&self) -> &[u8]
+        ensures { result.now ≡ bytes_in self.now }
+    {
+        &self.bytes[..self.length.min(100)]
     }
 }
 
 // The words that a setup request carries.
+#[tactic(auto, unfolding(crate::specs::Frames::setup_data))]
 pub(crate) fn setup_data(s: Settings, k: Command) -> Body
     ensures { DataSays (setup_data s k) result }
 {
+    let sizes = 32 * u32::from(s.masterwords) + u32::from(s.slavewords);
     match k {
-        Command::Connect => one_word(1),
-        Command::ConfirmNetwork => Body {
-            bytes: four_words(
-                s.interval,
-                s.roundtrip,
-                s.age,
-                32 * (s.masterwords as u32) + (s.slavewords as u32),
-            ),
-            length: 16,
-        },
-        Command::VerifyStation => one_word(s.station),
-        Command::InvokeFunc => one_word(0),
-        Command::ReadErrorInfo => one_word(0),
-        Command::WriteErrorInfo => one_word(0),
-        Command::RefreshReady => one_word(0),
-        Command::RefreshMo => one_word(0),
-        Command::RefreshGo => one_word(0),
-        Command::Refresh => one_word(0),
-        Command::Disconnect => one_word(0),
+        Command::Connect => Body::of_words(&[1]),
+        Command::ConfirmNetwork => Body::of_words(&[s.interval, s.roundtrip, s.age, sizes]),
+        Command::VerifyStation => Body::of_words(&[s.station]),
+        _ => Body::of_words(&[0]),
     }
 }
 
-fn is_count(words: u8) -> bool
-    ensures { result ≡ is_count words }
-{
-    (1 <= words) & (words <= 25)
+// How many words a user's S-Data has, or an error record. A count outside, which none has that was taken, counts as the
+// least.
+#[derive(Clone, Copy)]
+struct Counts {
+    least: u8,
+    most: u8,
 }
 
-// Bytes of so many words.
-fn width(words: u8) -> usize
-    ensures { result ≡ width_of words }
-{
-    if is_count(words) {
-        4 * (words as usize)
-    } else {
-        4
+const WORDS: Counts = Counts { least: 1, most: 25 };
+
+const RECORD: Counts = Counts { least: 4, most: 14 };
+
+impl Counts {
+    fn contains(self, words: u8) -> bool
+        ensures { result ≡ leb self.least words && leb words self.most }
+    {
+        (self.least..=self.most).contains(&words)
     }
+
+    // Bytes of so many words.
+    fn width(self, words: u8) -> usize
+        ensures { result ≡ 4 * cond (leb self.least words && leb words self.most) words self.least }
+    {
+        let counted = if self.contains(words) {
+            words
+        } else {
+            self.least
+        };
+        4 * usize::from(counted)
+    }
+
+    // So many words of what is held, and zeros past its end.
+    fn front(self, words: u8, held: &[u8]) -> Body
+        requires { (self.least ≤ 25) × (self.most ≤ 25) }
+        ensures { DataSays
+            (take (4 * cond (leb self.least words && leb words self.most) words self.least) (padded_of held.now)) result }
+    {
+        Body {
+            bytes: padded(held),
+            length: self.width(words),
+        }
+    }
+}
+
+// Bytes of the value that one end sends: the slave, or the master.
+fn value_width(s: Settings, slave: bool) -> usize
+    ensures { result ≡ width_of (cond slave s.slavewords s.masterwords) }
+{
+    WORDS.width(if slave { s.slavewords } else { s.masterwords })
 }
 
 pub(crate) fn send_width(s: Settings) -> usize
     ensures { result ≡ send_width s }
 {
-    if s.slave {
-        return width(s.slavewords);
-    }
-    width(s.masterwords)
+    value_width(s, s.slave)
 }
 
 pub(crate) fn show_width(s: Settings) -> usize
-    ensures { result ≡ show_width s }
+    ensures { (result ≡ show_width s) × (result ≤ 100) }
 {
-    if s.slave {
-        return width(s.masterwords);
-    }
-    width(s.slavewords)
+    value_width(s, !s.slave)
 }
 
-// The session number that the endpoint's frames carry, if it has one.
-pub(crate) fn session_of(e: Core) -> Subconnection
+// The session number that the endpoint's frames carry, if it has one: a u16 has the 16 bits that are carried.
+pub(crate) fn session_of(e: Core) -> Option<u16>
     ensures { result ≡ session_of (bare e) }
 {
-    let session = e.session;
-    narrowed(session)
+    e.session
 }
 
 // An S-Connect request carries none.
-fn session_with(e: Core, k: Command) -> Subconnection
+fn session_with(e: Core, k: Command) -> Option<u16>
     ensures { result ≡ session_with (bare e) k }
 {
-    if is(k, Command::Connect) {
-        return Subconnection::Absent;
+    if k == Command::Connect {
+        return None;
     }
     session_of(e)
 }
 
-// A frame that is no reply; application tells the direction.
-pub(crate) fn sent_fields(
-    command: Command,
-    sequence: bool,
-    application: bool,
-    session: Subconnection,
-    connection: u32,
-    timestamp: u64,
-    baseline: u16,
-) -> Fields
-    ensures { result ≡ sent_fields command sequence application session connection timestamp baseline }
+// A frame of a master that is no S-Connect, and no part of a measurement.
+pub(crate) fn sent_fields(e: Core, command: Command, timestamp: u64) -> Fields
+    ensures { result ≡ sent_fields command false false (session_of (bare e)) e.settings.connection timestamp 0 }
 {
     Fields {
-        command: command,
+        command,
         ack: false,
         busy: false,
         error: false,
-        sequence: sequence,
-        application: application,
-        subconnection: session,
-        connection: connection,
-        timestamp: timestamp,
-        baseline: baseline,
+        sequence: false,
+        application: false,
+        subconnection: session_of(e),
+        connection: e.settings.connection,
+        timestamp,
+        baseline: 0,
     }
 }
 
@@ -154,8 +159,8 @@ pub(crate) fn sent_fields(
 fn baseline_of(k: Command, clock: u64, measured: u64) -> u16
     ensures { result ≡ baseline_of k clock measured }
 {
-    if is(k, Command::RefreshGo) {
-        return (passed(clock, measured) % 65536) as u16;
+    if k == Command::RefreshGo {
+        return (clock.saturating_sub(measured) % 65536) as u16;
     }
     0
 }
@@ -165,16 +170,12 @@ pub(crate) fn request_fields(e: Core, clock: u64, stamp: u64) -> Fields
     ensures { result ≡ sent_fields (request_due (bare e)) false false (session_with (bare e) (request_due (bare e)))
         e.settings.connection stamp (baseline_of (request_due (bare e)) clock e.setup.measured) }
 {
-    let k = request_due(e);
-    sent_fields(
-        k,
-        false,
-        false,
-        session_with(e, k),
-        e.settings.connection,
-        stamp,
-        baseline_of(k, clock, e.setup.measured),
-    )
+    let k = e.request_due();
+    Fields {
+        subconnection: session_with(e, k),
+        baseline: baseline_of(k, clock, e.setup.measured),
+        ..sent_fields(e, k, stamp)
+    }
 }
 
 // S-RefreshMO or S-RefreshGO in Refresh, with this timestamp and the measurement that it leaves.
@@ -182,110 +183,36 @@ pub(crate) fn measurement_fields(e: Core, k: Command, clock: u64, stamp: u64) ->
     ensures { result ≡ sent_fields k (measurement_after k clock e.measurement).sequence false (session_of (bare e))
         e.settings.connection stamp (baseline_of k clock e.setup.measured) }
 {
-    let last = e.measurement;
-    let measurement = measurement_after(k, clock, last);
-    sent_fields(
-        k,
-        measurement.sequence,
-        false,
-        session_of(e),
-        e.settings.connection,
-        stamp,
-        baseline_of(k, clock, e.setup.measured),
-    )
+    Fields {
+        sequence: measurement_after(k, clock, e.measurement).sequence,
+        baseline: baseline_of(k, clock, e.setup.measured),
+        ..sent_fields(e, k, stamp)
+    }
 }
 
 pub(crate) fn reply_fields(e: Core, f: Fields, busy: bool, error: bool) -> Fields
     ensures { result ≡ reply_fields (bare e) f busy error }
 {
-    let k = f.command;
     Fields {
-        command: k,
         ack: true,
-        busy: busy,
-        error: error,
-        sequence: is_joined(k) & f.sequence,
+        busy,
+        error,
+        sequence: is_joined(f.command) && f.sequence,
         application: true,
-        subconnection: session_of(e),
-        connection: e.settings.connection,
-        timestamp: f.timestamp % TIMESTAMP_MODULUS,
-        baseline: 0,
-    }
-}
-
-// Writes a frame with this data.
-pub(crate) fn write_data(head: Head, carried: Body, out: &mut [u8]) -> usize
-    requires { carried.length ≤ length carried.bytes }
-    ensures { HeadSays head (bytes_in carried) out.old out.new result }
-{
-    let bytes = carried.bytes;
-    let n = carried.length;
-    write_head(head, &bytes[..n], out)
-}
-
-// Whether a body is this data.
-pub(crate) fn is_data(body: &[u8], due: Body) -> bool
-    requires { due.length ≤ length due.bytes }
-    ensures { result ≡ same body.now (bytes_in due) }
-{
-    let bytes = due.bytes;
-    let n = due.length;
-    same(body, &bytes[..n])
-}
-
-// ---- what its user handed over, whose bytes are lent
-
-// Whether an error record has so many words.
-fn is_record_count(words: u8) -> bool
-    ensures { result ≡ is_record_count words }
-{
-    (4 <= words) & (words <= 14)
-}
-
-// Bytes of an error record of so many words.
-fn record_width(words: u8) -> usize
-    ensures { result ≡ record_width words }
-{
-    if is_record_count(words) {
-        4 * (words as usize)
-    } else {
-        16
-    }
-}
-
-// So many words.
-fn handed_over(count: u8, words: &[u8]) -> Body
-    ensures { DataSays (handed_over (words_of count words.now)) result }
-{
-    Body {
-        bytes: padded(words),
-        length: width(count),
-    }
-}
-
-// An error record of so many words.
-fn record_in(count: u8, errorinfo: &[u8]) -> Body
-    ensures { DataSays (record_in (words_of count errorinfo.now)) result }
-{
-    Body {
-        bytes: padded(errorinfo),
-        length: record_width(count),
+        ..sent_fields(e, f.command, f.timestamp % TIMESTAMP_MODULUS)
     }
 }
 
 // What the request due carries: its user's words, its user's error record, or those of a setup request.
-pub(crate) fn due_data(e: Core, words: &[u8], errorinfo: &[u8]) -> Body
-    ensures { DataSays (due_data (with_handed words.now errorinfo.now (bare e))) result }
+#[tactic(auto, unfolding(crate::specs::Frames::handed_over, crate::specs::Frames::record_in))]
+pub(crate) fn due_data(e: Core, handed: HandedOver<'_>) -> Body
+    ensures { DataSays (due_data (with_handed handed.entry.words.now handed.entry.errorinfo.now (bare e))) result }
 {
-    let k = request_due(e);
-    if is(k, Command::InvokeFunc) {
-        return handed_over(e.words, words);
+    match e.request_due() {
+        Command::InvokeFunc => WORDS.front(e.words, handed.words),
+        Command::WriteErrorInfo => RECORD.front(e.errorinfo, handed.errorinfo),
+        k => setup_data(e.settings, k),
     }
-    if is(k, Command::WriteErrorInfo) {
-        return record_in(e.errorinfo, errorinfo);
-    }
-    let settings = e.settings;
-    setup_data(settings, k)
 }
 
 // ---- a reply
@@ -294,27 +221,28 @@ pub(crate) fn due_data(e: Core, words: &[u8], errorinfo: &[u8]) -> Body
 fn is_performed(e: Core, k: Command, n: usize) -> bool
     ensures { result ≡ is_performed (bare e) k n }
 {
-    is(k, Command::InvokeFunc) & (is_count(e.words) & (n == width(e.words)))
+    k == Command::InvokeFunc && WORDS.contains(e.words) && n == WORDS.width(e.words)
 }
 
 pub(crate) fn is_busy(e: Core, k: Command, n: usize) -> bool
     ensures { result ≡ is_busy (bare e) k n }
 {
-    is_held_back(e, k) | (is(k, Command::InvokeFunc) & !is_performed(e, k, n))
+    e.is_held_back(k) || k == Command::InvokeFunc && !is_performed(e, k, n)
 }
 
 // Whether the station's error record is set.
 pub(crate) fn has_record(e: Core) -> bool
     ensures { result ≡ has_record (bare e) }
 {
-    is_record_count(e.errorinfo)
+    RECORD.contains(e.errorinfo)
 }
 
-// Writes a reply to a request with this body: the result or the error record whose bytes are lent, or the body.
+// Writes a reply to a request with this body: the result or the error record that was handed over, or the body. The count
+// is write_head's, which HeadSays fixes.
+#[tactic(auto, unfolding(crate::specs::Frames::handed_over, crate::specs::Frames::record_in))]
 pub(crate) fn write_reply(
     e: Core,
-    words: &[u8],
-    errorinfo: &[u8],
+    handed: HandedOver<'_>,
     k: Command,
     done: bool,
     head: Head,
@@ -322,14 +250,16 @@ pub(crate) fn write_reply(
     out: &mut [u8],
 ) -> usize
     ensures { HeadSays head
-        (reply_data (with_handed words.now errorinfo.now (bare e)) k done body.now)
+        (reply_data (with_handed handed.entry.words.now handed.entry.errorinfo.now (bare e)) k done body.now)
         out.old out.new result }
 {
     if is_performed(e, k, body.len()) {
-        return write_data(head, handed_over(e.words, words), out);
+        let result = WORDS.front(e.words, handed.words);
+        return write_head(head, result.bytes(), out);
     }
-    if is(k, Command::ReadErrorInfo) & done {
-        return write_data(head, record_in(e.errorinfo, errorinfo), out);
+    if k == Command::ReadErrorInfo && done {
+        let record = RECORD.front(e.errorinfo, handed.errorinfo);
+        return write_head(head, record.bytes(), out);
     }
     write_head(head, body, out)
 }

@@ -1,13 +1,12 @@
 -- Bytes that are printed are read back.
-use Rattle.std.proofs.Common.{◌≡◌, ℕ, zero, suc, ◌+◌, ◌*◌, ◌/◌, ◌%◌, ◌<◌, ◌≤◌, Bool, true, false, ◌&&◌, ◌||◌, eqb, ltb, List, [], ◌∷◌, ◌++◌, length, get_or, sym, refl, ap, ◌∙◌, ap₂, arith, ext_get_or, ltb-false, ltb-true, le-ltb, lt-ltb, eq-eqb, le-leb}
+use Rattle.std.proofs.Common.{◌≡◌, ℕ, zero, suc, ◌+◌, ◌*◌, ◌/◌, ◌%◌, ◌<◌, ◌≤◌, Bool, true, false, ◌&&◌, ◌||◌, eqb, ltb, List, [], ◌∷◌, length, get_or, refl, ap, ◌∙◌, ap₂, arith, ext_get_or, ltb-false, ltb-true, le-ltb, lt-ltb, eq-eqb, le-leb}
 use mathlib.Core.Bool.{or-true}
-use lib.ListN.{get_or-append}
-use lib.Seq.{get_or_at}
 use borrow.Author.Tests.{lt-leb}
 use mathlib.Mathlib.Data.Bool.Basic.{and_intro}
-use Rattle.text.specs.Printing.{every, hex_digit, hex_of, hex_text}
+use Rattle.std.specs.List.{list_all}
+use Rattle.std.proofs.lemmas.List.FromFn.{get_or-map-range_with_len, length-map-range_with_len}
+use Rattle.text.specs.Printing.{hex_digit, hex_of, hex_text}
 use Rattle.text.specs.Reading.{is_hex_digit, is_hex, digit_of, byte_at, up_to, byte_in, byte_count, bytes_from}
-use Rattle.text.proofs.Runs.{length_hex, length_upto}
 
 -- ---- one digit
 low : (d : ℕ) → d < 10 → (is_hex_digit (hex_digit d) ≡ true) × (digit_of (hex_digit d) ≡ d)
@@ -30,6 +29,11 @@ one d h = by (ltb d 10) refl
     by : (p : Bool) → ltb d 10 ≡ p → (is_hex_digit (hex_digit d) ≡ true) × (digit_of (hex_digit d) ≡ d)
     by true e = low d (ltb-true d 10 e)
     by false e = high d (ltb-false d 10 e) h
+
+length_hex : (s : List ℕ) → length (hex_of s) ≡ 2 * length s
+unfolding hex_of
+length_hex [] = refl
+length_hex (b ∷ s) = let e = length_hex s in omega arith
 
 -- ---- where the digits of the byte i stand
 first : (s : List ℕ) (i : ℕ) → i < length s → get_or (hex_of s) (2 * i) 0 ≡ hex_digit (get_or s i 0 / 16)
@@ -59,32 +63,19 @@ byte_back s i h k =
     ∙ omega arith
 
 -- ---- all of them
-at_upto : (f : ℕ → ℕ) (n i : ℕ) → i < n → get_or (up_to f n) i 0 ≡ f i
-unfolding up_to
-at_upto f zero i h = absurd (omega arith)
-at_upto f (suc n) i h = by (ltb i n) refl (λ (g : i < n). at_upto f n i g)
-  where
-    by : (p : Bool) → ltb i n ≡ p → (i < n → get_or (up_to f n) i 0 ≡ f i) → get_or (up_to f n ++ (f n ∷ [])) i 0 ≡ f i
-    by true e g =
-        let l : i < length (up_to f n) = omega (arith, length_upto f n, ltb-true i n e) in
-        get_or-append (up_to f n) (f n ∷ []) 0 i l ∙ g (ltb-true i n e)
-    by false e g =
-        let q : i ≡ n = omega (arith, ltb-false i n e) in
-        get_or_at (up_to f n) (f n) [] 0 i (length_upto f n ∙ sym q) ∙ ap f (sym q)
-
 all_back : (s : List ℕ) → ((i : ℕ) → get_or s i 0 < 256) → bytes_from (hex_of s) 0 ≡ s
 unfolding bytes_from
 all_back s h =
     let f : ℕ → ℕ = byte_in (hex_of s) 0 in
     let n : byte_count (hex_of s) 0 ≡ length s = omega (arith, length_hex s) in
-    ap (up_to f) n
-    ∙ ext_get_or 0 (up_to f (length s)) s (length_upto f (length s))
+    ap (λ (k : ℕ). up_to f k) n
+    ∙ ext_get_or 0 (up_to f (length s)) s (length-map-range_with_len f 0 (length s))
     (λ i g.
-    let k : i < length s = omega (arith, length_upto f (length s)) in
-    at_upto f (length s) i k ∙ byte_back s i k (h i))
+    let k : i < length s = omega (arith, length-map-range_with_len f 0 (length s)) in
+    get_or-map-range_with_len f 0 (length s) i i 0 k (omega arith) ∙ byte_back s i k (h i))
 
-are_digits : (s : List ℕ) → ((i : ℕ) → get_or s i 0 < 256) → every is_hex_digit (hex_of s) ≡ true
-unfolding hex_of every
+are_digits : (s : List ℕ) → ((i : ℕ) → get_or s i 0 < 256) → list_all is_hex_digit (hex_of s) ≡ true
+unfolding hex_of
 are_digits [] h = refl
 are_digits (b ∷ s) h =
     let k : b < 256 = h 0 in
@@ -93,7 +84,7 @@ are_digits (b ∷ s) h =
 -- ---- the theorem
 pub bytes_back : (s : List ℕ) → ((i : ℕ) → get_or s i 0 < 256)
     → (is_hex (hex_text s) ≡ true) × (bytes_from (hex_text s) 0 ≡ s)
-unfolding hex_text is_hex bytes_from up_to
+unfolding hex_text is_hex bytes_from
 bytes_back [] h = (refl, refl)
 bytes_back (b ∷ s) h =
     let t : List ℕ = hex_of (b ∷ s) in

@@ -1,21 +1,21 @@
 -- How old a shown value can be: a line of text for a connection.
-use Rattle.std.specs.Prelude.{ℕ, ◌*◌, ◌/◌, Bool, cond, List, ◌++◌}
-use Rattle.words.specs.Words.{word_bytes}
+use Rattle.std.specs.Prelude.{ℕ, ◌*◌, ◌/◌, Bool, cond, List, ◌++◌, codes, decimal}
+use Rattle.std.specs.Int.{to_be_bytes, w32}
 use Rattle.endpoint.specs.declared.Settings.{Settings}
 use Rattle.endpoint.specs.Time.{bound_of}
-use Rattle.text.specs.Printing.{bytes_of, digits_of, last_digits, hex_of}
+use Rattle.text.specs.Printing.{last_digits, hex_of}
 
 -- ticks in milliseconds, three digits after the point: a tick is 128 microseconds
 unfoldable pub milliseconds_text : ℕ → List ℕ
-milliseconds_text n = digits_of (128 * n / 1000) ++ bytes_of "." ++ last_digits 3 (128 * n)
+milliseconds_text n = decimal (128 * n / 1000) ++ codes "." ++ last_digits 3 (128 * n)
 
 -- the same beside the ticks: ` (12.800 ms)`
 unfoldable pub beside_text : ℕ → List ℕ
-beside_text n = bytes_of " (" ++ milliseconds_text n ++ bytes_of " ms)"
+beside_text n = codes " (" ++ milliseconds_text n ++ codes " ms)"
 
 -- a name and its number: ` M=1`
 unfoldable pub number_text : List ℕ → ℕ → List ℕ
-number_text name n = name ++ digits_of n
+number_text name n = name ++ decimal n
 
 -- a name and its ticks: ` I=100 (12.800 ms)`
 unfoldable pub ticks_text : List ℕ → ℕ → List ℕ
@@ -23,27 +23,27 @@ ticks_text name n = number_text name n ++ beside_text n
 
 -- eight hexadecimal digits
 unfoldable pub cid_text : ℕ → List ℕ
-cid_text cid = hex_of (word_bytes cid)
+cid_text cid = hex_of (to_be_bytes w32 cid)
 
 unfoldable pub role_text : Bool → List ℕ
-role_text slave = cond slave (bytes_of " slave") (bytes_of " master")
+role_text slave = cond slave (codes " slave") (codes " master")
 
 -- CID and role, M and S in words
 unfoldable pub connection_text : Settings → List ℕ
 connection_text s =
     cid_text s.connection ++ role_text s.slave
-    ++ number_text (bytes_of " M=") s.masterwords ++ number_text (bytes_of " S=") s.slavewords
+    ++ number_text (codes " M=") s.masterwords ++ number_text (codes " S=") s.slavewords
 
 -- I, R and A
 unfoldable pub times_text : Settings → List ℕ
 times_text s =
-    ticks_text (bytes_of " I=") s.interval ++ ticks_text (bytes_of " R=") s.roundtrip
-    ++ ticks_text (bytes_of " A=") s.age
+    ticks_text (codes " I=") s.interval ++ ticks_text (codes " R=") s.roundtrip
+    ++ ticks_text (codes " A=") s.age
 
 -- `: a shown value is at most 150 ticks (19.200 ms) old`, and the newline
 unfoldable pub bound_text : ℕ → List ℕ
 bound_text n =
-    number_text (bytes_of ": a shown value is at most ") n ++ bytes_of " ticks" ++ beside_text n ++ bytes_of " old\n"
+    number_text (codes ": a shown value is at most ") n ++ codes " ticks" ++ beside_text n ++ codes " old\n"
 
 -- a connection's settings, and the bound that demand 3 proves at this end
 unfoldable pub bounds_text : Settings → List ℕ

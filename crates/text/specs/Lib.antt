@@ -2,5 +2,6 @@
 pub mod Printing
 pub mod Bounds
 pub mod Lines
+pub mod Inputs
 pub mod Reading
 pub mod Calls

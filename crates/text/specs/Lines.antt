@@ -1,6 +1,6 @@
 -- Lines of an input that is read a buffer at a time: what is kept of the line, and how far the input was read.
-use Rattle.std.specs.Prelude.{ℕ, ◌+◌, ◌-◌, ◌%◌, ◌^◌, false, cond, ◌&&◌, List, length, take, ◌==◌, nat_lt}
-use Rattle.words.specs.Bytes.{slice, index_of}
+use Rattle.std.specs.Prelude.{ℕ, ◌+◌, ◌-◌, ◌%◌, ◌^◌, Bool, false, cond, ◌&&◌, List, length, take, drop, ◌==◌, nat_lt}
+use Rattle.std.specs.List.{before_first, position_or_len}
 use Rattle.text.specs.declared.lines.Input.{Input}
 
 -- before anything was read
@@ -31,19 +31,23 @@ refilled_of i n = record {
 
 -- the bytes that are still to be taken
 abbrev pub left_of : Input → List ℕ → List ℕ
-left_of i buffer = slice i.from i.to buffer
+left_of i buffer = drop i.from (take i.to buffer)
 
 -- what a line with room for `most` bytes keeps of them: those before the first newline
 abbrev pub kept_of : Input → List ℕ → ℕ → List ℕ
-kept_of i left most = take (most - (current_of i).length) (take (index_of 10 left) left)
+kept_of i left most = take (most - (current_of i).length) (before_first (λ b. b == 10) left)
+
+-- whether a newline is among them
+abbrev pub has_newline : List ℕ → Bool
+has_newline left = nat_lt (position_or_len (λ b. b == 10) left) (length left)
 
 -- they are taken, and the newline after them, which ends the line
 abbrev pub taken_of : Input → List ℕ → ℕ → Input
 taken_of i left most = record {
-  from = i.from + (index_of 10 left + cond (nat_lt (index_of 10 left) (length left)) 1 0);
+  from = i.from + position_or_len (λ b. b == 10) left + cond (has_newline left) 1 0;
   to = i.to;
   length = (current_of i).length + length (kept_of i left most);
   place = (current_of i).place;
-  whole = nat_lt (index_of 10 left) (length left);
+  whole = has_newline left;
   ended = i.ended;
 }

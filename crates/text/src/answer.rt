@@ -1,142 +1,127 @@
 // The answer to a call as a line of text, over the front of a lent output.
-ghost use Rattle.std.specs.Prelude.{◌≡◌, ◌+◌, ◌*◌, ◌≤◌, length, drop};
-ghost use Rattle.text.specs.Printing.{digits_of, hex_text, word, entry_text, mark_text, age_text, end_text};
-ghost use Rattle.text.specs.Printing.{answer_text, check_text, wrong_text, every, is_fill, Puts, Written};
+ghost use Rattle.std.specs.Prelude.{◌≡◌, ◌+◌, ◌*◌, length, drop, decimal};
+ghost use Rattle.std.specs.List.{list_all};
+ghost use Rattle.text.specs.Printing.{hex_text, word, entry_text, mark_text, age_text, end_text, is_fill};
+ghost use Rattle.text.specs.Printing.{answer_text, check_text, wrong_text, HasRoom, Puts, Written};
 
-use super::Entry;
-use super::put::{put_byte, put_decimal, put_hex, put_two};
-use endpoint::Age;
+use super::put::Writer;
 
-// The number n and a space at k, and the place after them.
-fn put_number(out: &mut [u8], k: usize, n: u64) -> usize
-    requires { k + 21 ≤ length out.old }
-    ensures { (Puts out.old k (word (digits_of n)) out.new result) × (result ≤ k + 21) }
-{
-    let e = put_decimal(out, k, n);
-    put_byte(out, e, 32);
-    e + 1
+// What an output is filled with before it is lent.
+pub const FILL: u8 = 0xEE;
+
+// What a call answered.
+#[derive(Clone, Copy, Debug, PartialEq, Eq)]
+pub struct Answer {
+    pub number: u8,
+    // the entry that the answer names, if it names one
+    pub entry: Option<usize>,
+    pub count: usize,
+    pub mark: bool,
+    // the age of a shown value in ticks, where one is told
+    pub age: Option<u64>,
+    // whether a byte past those written was changed
+    pub dirty: bool,
 }
 
-// The entry and a space at k, and the place after them.
-fn put_entry(out: &mut [u8], k: usize, entry: Entry) -> usize
-    requires { k + 21 ≤ length out.old }
-    ensures { (Puts out.old k (word (entry_text entry)) out.new result) × (result ≤ k + 21) }
-{
-    match entry {
-        Entry::Absent => {
-            put_two(out, k, 45, 32);
-            k + 2
-        }
-        Entry::At(n) => put_number(out, k, n as u64),
+impl Writer<'_> {
+    // A number and a space.
+    fn number(&mut self, n: u64)
+        requires { HasRoom 21 self.old }
+        ensures { Puts 21 (word (decimal n)) self.old self.new }
+    {
+        self.decimal(n);
+        self.byte(b' ');
     }
-}
 
-// The mark and a space at k, and the place after them.
-fn put_mark(out: &mut [u8], k: usize, mark: bool) -> usize
-    requires { k + 2 ≤ length out.old }
-    ensures { (Puts out.old k (word (mark_text mark)) out.new result) × (result ≤ k + 2) }
-{
-    if mark {
-        put_two(out, k, 49, 32);
-        return k + 2;
-    }
-    put_two(out, k, 48, 32);
-    k + 2
-}
-
-// The bytes at k, and the place after them.
-fn put_bytes(out: &mut [u8], k: usize, bytes: &[u8]) -> usize
-    requires { k + (1 + 2 * length bytes.now) ≤ length out.old }
-    ensures { (Puts out.old k (hex_text bytes.now) out.new result)
-        × (result ≤ k + (1 + 2 * length bytes.now)) }
-{
-    let n = bytes.len();
-    if n == 0 {
-        put_byte(out, k, 45);
-        return k + 1;
-    }
-    put_hex(out, k, bytes);
-    k + 2 * n
-}
-
-// The age at k where one is told, and the place after it.
-fn put_age(out: &mut [u8], k: usize, age: Age) -> usize
-    requires { k + 21 ≤ length out.old }
-    ensures { (Puts out.old k (age_text age) out.new result) × (result ≤ k + 21) }
-{
-    match age {
-        Age::None => k,
-        Age::Ticks(n) => {
-            put_byte(out, k, 32);
-            put_decimal(out, k + 1, n)
+    // An entry and a space.
+    #[tactic(auto, using(crate::proofs::Pieces::within), unfolding(crate::specs::Printing::word, crate::specs::Printing::entry_text))]
+    fn entry(&mut self, entry: Option<usize>)
+        requires { HasRoom 21 self.old }
+        ensures { Puts 21 (word (entry_text entry)) self.old self.new }
+    {
+        match entry {
+            None => self.text(b"- "),
+            Some(entry) => self.number(entry as u64),
         }
     }
-}
 
-// The end of a line at k, and the place after it.
-fn put_end(out: &mut [u8], k: usize, dirty: bool) -> usize
-    requires { k + 7 ≤ length out.old }
-    ensures { (Puts out.old k (end_text dirty) out.new result) × (result ≤ k + 7) }
-{
-    if dirty {
-        put_two(out, k, 32, 68);
-        put_two(out, k + 2, 73, 82);
-        put_two(out, k + 4, 84, 89);
-        put_byte(out, k + 6, 10);
-        return k + 7;
+    // A mark and a space.
+    #[tactic(auto, using(crate::proofs::Pieces::within), unfolding(crate::specs::Printing::word, crate::specs::Printing::mark_text))]
+    fn mark(&mut self, mark: bool)
+        requires { HasRoom 2 self.old }
+        ensures { Puts 2 (word (mark_text mark)) self.old self.new }
+    {
+        if mark {
+            self.text(b"1 ")
+        } else {
+            self.text(b"0 ")
+        }
     }
-    put_byte(out, k, 10);
-    k + 1
+
+    fn bytes(&mut self, bytes: &[u8])
+        requires { HasRoom (1 + 2 * length bytes.now) self.old }
+        ensures { Puts (1 + 2 * length bytes.now) (hex_text bytes.now) self.old self.new }
+    {
+        if bytes.is_empty() {
+            self.text(b"-")
+        } else {
+            self.hex(bytes)
+        }
+    }
+
+    fn age(&mut self, age: Option<u64>)
+        requires { HasRoom 21 self.old }
+        ensures { Puts 21 (age_text age) self.old self.new }
+    {
+        if let Some(ticks) = age {
+            self.byte(b' ');
+            self.decimal(ticks);
+        }
+    }
+
+    // The end of a line.
+    #[tactic(auto, using(crate::proofs::Pieces::within), unfolding(crate::specs::Printing::end_text))]
+    fn end(&mut self, dirty: bool)
+        requires { HasRoom 7 self.old }
+        ensures { Puts 7 (end_text dirty) self.old self.new }
+    {
+        if dirty {
+            self.text(b" DIRTY\n")
+        } else {
+            self.text(b"\n")
+        }
+    }
+
+    // All pieces of an answer.
+    fn answer(&mut self, answer: Answer, written: &[u8])
+        requires { HasRoom (101 + 2 * length written.now) self.old }
+        ensures { Puts (101 + 2 * length written.now) (answer_text answer written.now)
+            self.old self.new }
+    {
+        self.number(answer.number as u64);
+        self.entry(answer.entry);
+        self.number(answer.count as u64);
+        self.mark(answer.mark);
+        self.bytes(written);
+        self.age(answer.age);
+        self.end(answer.dirty);
+    }
 }
 
-// All pieces of an answer, from the front.
-fn put_line(
-    out: &mut [u8],
-    number: u8,
-    entry: Entry,
-    count: usize,
-    mark: bool,
-    age: Age,
-    dirty: bool,
-    bytes: &[u8],
-) -> usize
-    requires { 101 + 2 * length bytes.now ≤ length out.old }
-    ensures { (Puts out.old 0 (answer_text number entry count mark age dirty bytes.now)
-        out.new result)
-        × (result ≤ 101 + 2 * length bytes.now) }
-{
-    let a = put_number(out, 0, number as u64);
-    let b = put_entry(out, a, entry);
-    let c = put_number(out, b, count as u64);
-    let d = put_mark(out, c, mark);
-    let e = put_bytes(out, d, bytes);
-    let f = put_age(out, e, age);
-    put_end(out, f, dirty)
-}
-
+// (The counts are no Options: `Written`, which every put_ has, is of a count.)
 // The answer to a call over the front of out, and its length. Where out is shorter than 101 bytes and two for each
 // byte written, nothing is put and the count is 0.
-pub fn put_answer(
-    out: &mut [u8],
-    number: u8,
-    entry: Entry,
-    count: usize,
-    mark: bool,
-    age: Age,
-    dirty: bool,
-    written: &[u8],
-) -> usize
-    ensures { Written (101 + 2 * length written.now)
-        (answer_text number entry count mark age dirty written.now) out.old out.new result }
+pub fn put_answer(out: &mut [u8], answer: Answer, written: &[u8]) -> usize
+    ensures { Written (101 + 2 * length written.now) (answer_text answer written.now)
+        out.old out.new result }
 {
-    let n = out.len();
-    if n < 101 {
+    let room = out.len();
+    if room < 101 || (room - 101) / 2 < written.len() {
         return 0;
     }
-    if (n - 101) / 2 < written.len() {
-        return 0;
-    }
-    put_line(out, number, entry, count, mark, age, dirty, written)
+    let mut line = Writer { out, at: 0 };
+    line.answer(answer, written);
+    line.at
 }
 
 // The answer to the frame check alone over the front of out, and its length. Where out is shorter than 24 bytes,
@@ -147,9 +132,10 @@ pub fn put_check(out: &mut [u8], number: u8) -> usize
     if out.len() < 24 {
         return 0;
     }
-    let e = put_decimal(out, 0, number as u64);
-    put_byte(out, e, 10);
-    e + 1
+    let mut line = Writer { out, at: 0 };
+    line.decimal(number as u64);
+    line.byte(b'\n');
+    line.at
 }
 
 // The answer to the n-th line where it is no call, over the front of out, and its length. Where out is shorter than
@@ -160,21 +146,16 @@ pub fn put_wrong(out: &mut [u8], n: u64) -> usize
     if out.len() < 24 {
         return 0;
     }
-    put_two(out, 0, 63, 32);
-    let e = put_decimal(out, 2, n);
-    put_byte(out, e, 10);
-    e + 1
+    let mut line = Writer { out, at: 0 };
+    line.text(b"? ");
+    line.decimal(n);
+    line.byte(b'\n');
+    line.at
 }
 
-// Whether all bytes from `from` on are 0xEE, as before the call.
+// Whether all bytes from `from` on are as before the call. (bytes and from stay two: the clause has both.)
 pub fn is_clean(bytes: &[u8], from: usize) -> bool
-    ensures { result ≡ every is_fill (drop from bytes.now) }
+    ensures { result ≡ list_all is_fill (drop from bytes.now) }
 {
-    let mut is = true;
-    let mut i = from;
-    while i < bytes.len() {
-        is = is & (bytes[i] == 238);
-        i += 1;
-    }
-    is
+    bytes.iter().skip(from).all(|b| *b == FILL)
 }

@@ -11,15 +11,8 @@ pub mod parse;
 mod put;
 mod word;
 
-// The entry that an answer names, if it names one.
-#[derive(Clone, Copy)]
-pub enum Entry {
-    Absent,
-    At(usize),
-}
-
 // The calls that CLOCK and ENTRY alone follow.
-#[derive(Clone, Copy)]
+#[derive(Clone, Copy, Debug, PartialEq, Eq)]
 pub enum Act {
     Start,
     Stop,
@@ -36,7 +29,7 @@ pub enum Act {
 }
 
 // What the bytes are that follow CLOCK and ENTRY.
-#[derive(Clone, Copy)]
+#[derive(Clone, Copy, Debug, PartialEq, Eq)]
 pub enum Kind {
     // The value that is sent.
     Value,
@@ -48,7 +41,7 @@ pub enum Kind {
 }
 
 // What a line sets for the calls after it.
-#[derive(Clone, Copy)]
+#[derive(Clone, Copy, Debug, PartialEq, Eq)]
 pub enum Parameter {
     // The length of the output that they are lent.
     Room,
@@ -58,26 +51,31 @@ pub enum Parameter {
     Session,
 }
 
-// What a line of a call list is. The bytes of a call stand as digits from `start` to the end of the line.
-#[derive(Clone, Copy)]
+// CLOCK and ENTRY, with which the calls on one connection begin.
+#[derive(Clone, Copy, Debug, PartialEq, Eq)]
+pub struct Head {
+    pub clock: u64,
+    pub entry: u32,
+}
+
+// What a line of a call list is. The bytes of a call stand as digits from `start` to the end of the line: a place and no
+// slice, since `line_of` gives that place and `bytes_from` takes it.
+#[derive(Clone, Copy, Debug, PartialEq, Eq)]
 pub enum Line {
     // Settings words.
     Load,
     Timed {
         act: Act,
-        clock: u64,
-        entry: u32,
+        head: Head,
     },
     Data {
         kind: Kind,
-        clock: u64,
-        entry: u32,
+        head: Head,
         start: usize,
     },
     // The master's user queues S-InvokeFunc: the command word, and what follows it.
     Invoke {
-        clock: u64,
-        entry: u32,
+        head: Head,
         word: u32,
         start: usize,
     },
@@ -96,6 +94,4 @@ pub enum Line {
     },
     // A comment, or nothing at all.
     Nothing,
-    // Any other form.
-    Wrong,
 }

@@ -1,14 +1,15 @@
-// Lines of an input that is read a buffer at a time: each is gathered in lent memory.
-ghost use Rattle.std.specs.Prelude.{◌≡◌, ◌+◌, ◌-◌, min, length, take, if◌then◌else◌, nat_lt};
+// Lines of an input that is read a buffer at a time: each is gathered in fixed memory.
+ghost use Rattle.std.specs.Prelude.{◌≡◌, ℕ, ◌-◌, ◌<◌, ◌≤◌, true, false, Ok, length, take, drop, MatchOption, MatchResult};
 ghost use Rattle.words.specs.Output.{put};
-ghost use Rattle.text.specs.Printing.{Puts};
 ghost use Rattle.text.specs.Lines.{first_input, current_of, refilled_of, left_of, kept_of, taken_of};
+ghost use Rattle.text.specs.Inputs.{lines_taken, Refills};
 
-use super::put::put_text;
-use words::find;
+use super::word::cut;
+use std::io;
+use std::io::Read;
 
-// How far the input was read.
-#[derive(Clone, Copy)]
+// How far the input was read. (Two flags and no enum of states: `taken_of` and `refilled_of` have both.)
+#[derive(Clone, Copy, Debug, PartialEq, Eq)]
 pub struct Input {
     // the bytes of the buffer that are still to be taken
     pub from: usize,
@@ -37,83 +38,129 @@ pub fn first_input() -> Input
     }
 }
 
-// After a whole line the next one, of which nothing has come.
-fn current(input: Input) -> Input
-    ensures { result ≡ current_of input }
-{
-    let mut next = input;
-    if input.whole {
-        next.length = 0;
-        next.place = std::num::wrapping_add_u64(input.place, 1);
-        next.whole = false;
+impl Input {
+    // After a whole line the next one, of which nothing has come.
+    fn current(self) -> Input
+        ensures { result ≡ current_of self }
+    {
+        if !self.whole {
+            return self;
+        }
+        Input {
+            length: 0,
+            place: self.place.wrapping_add(1),
+            whole: false,
+            ..self
+        }
     }
-    next
+
+    // After n bytes were read into the buffer. Where there are none, the input has ended, and its last line with it.
+    pub fn refilled(self, n: usize) -> Input
+        ensures { result ≡ refilled_of self n }
+    {
+        let current = self.current();
+        Input {
+            from: 0,
+            to: n,
+            whole: n == 0 && current.length > 0,
+            ended: n == 0,
+            ..current
+        }
+    }
+
+    // The bytes of the buffer up to the next newline, behind those that the line has.
+    pub fn take_line(self, buffer: &[u8], line: &mut [u8]) -> Input
+        ensures taken { result ≡ taken_of self (left_of self buffer.now) (length line.old) }
+        ensures kept { line.new ≡ put line.old (current_of self).length
+            (kept_of self (left_of self buffer.now) (length line.old)) }
+    {
+        let current = self.current();
+        let left = between(buffer, self.from, self.to);
+        let (piece, rest) = cut(left, b'\n');
+        let whole = rest.is_some();
+        Input {
+            from: self.from + piece.len() + usize::from(whole),
+            length: current.length + keep(line, current.length, piece),
+            whole,
+            ..current
+        }
+    }
 }
 
-// After n bytes were read into the buffer. Where there are none, the input has ended, and its last line with it.
-pub fn refilled(input: Input, n: usize) -> Input
-    ensures { result ≡ refilled_of input n }
-{
-    let mut next = current(input);
-    next.from = 0;
-    next.to = n;
-    next.whole = (n == 0) & (0 < next.length);
-    next.ended = n == 0;
-    next
+// An input that is read line by line.
+#[derive(Drop)]
+pub struct Lines {
+    pub input: Input,
+    buffer: [u8; 4096],
+    // one byte more than the longest line, so that a longer one is seen
+    line: [u8; 4097],
 }
 
-// The bytes behind the n that the line has, as many as it has room for, and how many it then has.
+impl Lines {
+    // Before anything was read.
+    pub fn new() -> Lines
+        ensures { result.input ≡ first_input }
+    {
+        Lines {
+            input: first_input(),
+            buffer: [0; 4096],
+            line: [0; 4097],
+        }
+    }
+
+    // What is left of the buffer is taken up to the end of a line; where nothing is left, the buffer is filled.
+    pub fn read_on<R: Read>(&mut self, reader: &mut R) -> io::Result<()>
+        ensures taken { self.old.input.from < self.old.input.to
+            → (result ≡ Ok tt) × (self.new ≡ lines_taken self.old) × (reader.new ≡ reader.old) }
+        ensures read { self.old.input.to ≤ self.old.input.from → MatchResult result
+            (λ _. (n : ℕ) × Refills n self.old self.new (R.remaining reader.old) (R.remaining reader.new))
+            (λ _. (self.new.input ≡ self.old.input) × (self.new.line ≡ self.old.line)) }
+    {
+        if self.input.from < self.input.to {
+            self.input = self.input.take_line(&self.buffer, &mut self.line);
+            return Ok(());
+        }
+        let n = reader.read(&mut self.buffer)?;
+        self.input = self.input.refilled(n);
+        Ok(())
+    }
+
+    // The line, without its newline, where it is whole.
+    pub fn whole(&self) -> Option<&[u8]>
+        ensures { MatchOption result (self.now.input.whole ≡ false) (λ line.
+            (self.now.input.whole ≡ true) × (line.now ≡ take self.now.input.length self.now.line)) }
+    {
+        if !self.input.whole {
+            return None;
+        }
+        Some(front(&self.line, self.input.length))
+    }
+}
+
+// The bytes behind the n that the line has, as many as it has room for, and how many these are. (Places, here and in the two
+// below: `kept_of` and `left_of` are by places.)
 fn keep(line: &mut [u8], n: usize, bytes: &[u8]) -> usize
-    ensures { Puts line.old n (take (length line.old - n) bytes.now)
-        line.new result }
+    ensures kept { line.new ≡ put line.old n (take (length line.old - n) bytes.now) }
+    ensures count { result ≡ length (take (length line.old - n) bytes.now) }
 {
-    let most = line.len();
-    if most <= n {
-        return n;
+    let count = bytes.len().min(line.len().saturating_sub(n));
+    if count > 0 {
+        line[n..n + count].copy_from_slice(&bytes[..count]);
     }
-    if bytes.len() <= most - n {
-        return put_text(line, n, bytes);
-    }
-    let k = most - n;
-    put_text(line, n, &bytes[..k])
+    count
 }
 
-fn least(a: usize, b: usize) -> usize
-    ensures { result ≡ min a b }
+// The bytes of the buffer from one place up to another, or as many as there are.
+fn between(buffer: &[u8], from: usize, to: usize) -> &[u8]
+    ensures { result.now ≡ drop from (take to buffer.now) }
 {
-    if a < b { a } else { b }
-}
-
-// The place after the byte at k, where one stands there.
-fn after(k: usize, end: usize) -> usize
-    ensures { result ≡ k + (if nat_lt k end then 1 else 0) }
-{
-    if k < end { k + 1 } else { k }
-}
-
-// The bytes of the buffer up to the next newline, behind those that the line has.
-pub fn take_line(input: Input, buffer: &[u8], line: &mut [u8]) -> Input
-    ensures { (result ≡ taken_of input (left_of input buffer.now) (length line.old))
-        × (line.new ≡ put line.old (current_of input).length
-        (kept_of input (left_of input buffer.now) (length line.old))) }
-{
-    let mut next = current(input);
-    let from = input.from;
-    let to = least(input.to, buffer.len());
-    if to <= from {
-        return next;
-    }
-    let e = find(buffer, from, to, 10);
-    next.length = keep(line, next.length, &buffer[from..e]);
-    next.whole = e < to;
-    next.from = after(e, to);
-    next
+    let read = front(buffer, to);
+    &read[from.min(read.len())..]
 }
 
 // The first n bytes, or as many as there are.
 pub fn front(s: &[u8], n: usize) -> &[u8]
     ensures { result.now ≡ take n s.now }
 {
-    let k = least(n, s.len());
-    &s[..k]
+    &s[..n.min(s.len())]
 }

@@ -1,55 +1,36 @@
-// Decimal numbers below 2^64.
+// Decimal numbers below 2^64. (By hand: `parse` takes a sign and leading zeros, and `number_of` has neither.)
 ghost use Rattle.std.specs.Prelude.{◌≡◌, [], ◌∷◌};
 ghost use Rattle.text.specs.Reading.{number_from, number_of};
 
-// What a word is read as.
-#[derive(Clone, Copy)]
-pub(crate) enum Number {
-    Value(u64),
-    Invalid,
+// The value and one digit more.
+#[tactic(auto, unfolding(crate::specs::Reading::number_from, crate::specs::Reading::value_from))]
+fn digit_on(value: u64, digit: u8) -> Option<u64>
+    ensures { result ≡ number_from value (digit ∷ []) }
+{
+    if !digit.is_ascii_digit() {
+        return None;
+    }
+    value.checked_mul(10)?.checked_add(u64::from(digit - b'0'))
 }
 
-// The value v and one digit more.
-fn digit_on(v: u64, b: u8) -> Number
-    ensures { result ≡ number_from v (b ∷ []) }
+// The number that digits are.
+fn number_from(digits: &[u8]) -> Option<u64>
+    ensures { result ≡ number_from 0 digits.now }
 {
-    if b < 48 {
-        return Number::Invalid;
+    let mut value = 0;
+    for digit in digits {
+        value = digit_on(value, *digit)?;
     }
-    if 57 < b {
-        return Number::Invalid;
-    }
-    let d = (b - 48) as u64;
-    if (18446744073709551615 - d) / 10 < v {
-        return Number::Invalid;
-    }
-    Number::Value(10 * v + d)
+    Some(value)
 }
 
 // The number that a word is.
-pub(crate) fn number_of(word: &[u8]) -> Number
+#[tactic(auto, unfolding(crate::specs::Reading::number_of))]
+pub(crate) fn number_of(word: &[u8]) -> Option<u64>
     ensures { result ≡ number_of word.now }
 {
-    let n = word.len();
-    if n == 0 {
-        return Number::Invalid;
+    if word.is_empty() || (word.len() > 1 && word[0] == b'0') {
+        return None;
     }
-    if (1 < n) & (word[0] == 48) {
-        return Number::Invalid;
-    }
-    let mut v: u64 = 0;
-    let mut i = 0;
-    while i < n {
-        let next = digit_on(v, word[i]);
-        match next {
-            Number::Value(x) => {
-                v = x;
-            }
-            Number::Invalid => {
-                return Number::Invalid;
-            }
-        }
-        i += 1;
-    }
-    Number::Value(v)
+    number_from(word)
 }

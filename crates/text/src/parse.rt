@@ -1,17 +1,16 @@
 // A line of a call list, without its newline: which call it is.
-ghost use Rattle.std.specs.Prelude.{◌≡◌, ◌≤◌, map, length};
-ghost use Rattle.text.specs.Calls.{entry_of, name_in, name_of, pair_of, timed_of, data_of, deliver_of, most_of, set_of};
-ghost use Rattle.text.specs.Calls.{is_data, invoke_of, pair_in, timed_in, data_in, invoke_in, deliver_in};
-ghost use Rattle.text.specs.Calls.{check_in, call_of, line_of};
+ghost use Rattle.std.specs.Prelude.{◌≡◌, map};
+ghost use Rattle.text.specs.Calls.{name_in, name_of, head_of, is_data, most_of, head_in, timed_in, data_in, invoke_in};
+ghost use Rattle.text.specs.Calls.{deliver_in, check_in, set_in, call_of, line_of, entry_of};
+ghost use Rattle.text.specs.Reading.{number_of, rest_of};
 
 use super::hex::{is_frame, is_hex, is_load, is_word, word_at};
-use super::number::{Number, number_of};
-use super::word::{first, rest};
-use super::{Act, Kind, Line, Parameter};
-use words::{byte_at, same};
+use super::number::number_of;
+use super::word::split_word;
+use super::{Act, Head, Kind, Line, Parameter};
 
 // What the first word of a line names.
-#[derive(Clone, Copy)]
+#[derive(Clone, Copy, Debug, PartialEq, Eq)]
 pub(crate) enum Name {
     Load,
     Timed(Act),
@@ -20,95 +19,61 @@ pub(crate) enum Name {
     Deliver,
     Check,
     Set(Parameter),
-    Unknown,
 }
 
-// CLOCK and ENTRY.
-#[derive(Clone, Copy)]
-pub(crate) enum Pair {
-    Both { clock: u64, entry: u32 },
-    Broken,
-}
+// A word that begins a call, and what it names.
+type Verb = (&'static [u8], Name);
 
-// A word that begins a call, filled up with spaces, and what it names.
-#[derive(Clone, Copy)]
-struct Verb([u8; 10], Name);
-
-type Verbs = [Verb; 20];
-
-const VERBS: Verbs = [
-    Verb(*b"load      ", Name::Load),
-    Verb(*b"deliver   ", Name::Deliver),
-    Verb(*b"check     ", Name::Check),
-    Verb(*b"room      ", Name::Set(Parameter::Room)),
-    Verb(*b"records   ", Name::Set(Parameter::Records)),
-    Verb(*b"session   ", Name::Set(Parameter::Session)),
-    Verb(*b"send      ", Name::Data(Kind::Value)),
-    Verb(*b"invoke    ", Name::Invoke),
-    Verb(*b"result    ", Name::Data(Kind::Result)),
-    Verb(*b"record    ", Name::Data(Kind::Record)),
-    Verb(*b"writeerr  ", Name::Data(Kind::WriteError)),
-    Verb(*b"start     ", Name::Timed(Act::Start)),
-    Verb(*b"stop      ", Name::Timed(Act::Stop)),
-    Verb(*b"restart   ", Name::Timed(Act::Restart)),
-    Verb(*b"show      ", Name::Timed(Act::Show)),
-    Verb(*b"notready  ", Name::Timed(Act::NotReady)),
-    Verb(*b"ready     ", Name::Timed(Act::Ready)),
-    Verb(*b"noresult  ", Name::Timed(Act::NoResult)),
-    Verb(*b"norecord  ", Name::Timed(Act::NoRecord)),
-    Verb(*b"readerr   ", Name::Timed(Act::ReadError)),
+const VERBS: [Verb; 20] = [
+    (b"load", Name::Load),
+    (b"deliver", Name::Deliver),
+    (b"check", Name::Check),
+    (b"room", Name::Set(Parameter::Room)),
+    (b"records", Name::Set(Parameter::Records)),
+    (b"session", Name::Set(Parameter::Session)),
+    (b"send", Name::Data(Kind::Value)),
+    (b"invoke", Name::Invoke),
+    (b"result", Name::Data(Kind::Result)),
+    (b"record", Name::Data(Kind::Record)),
+    (b"writeerr", Name::Data(Kind::WriteError)),
+    (b"start", Name::Timed(Act::Start)),
+    (b"stop", Name::Timed(Act::Stop)),
+    (b"restart", Name::Timed(Act::Restart)),
+    (b"show", Name::Timed(Act::Show)),
+    (b"notready", Name::Timed(Act::NotReady)),
+    (b"ready", Name::Timed(Act::Ready)),
+    (b"noresult", Name::Timed(Act::NoResult)),
+    (b"norecord", Name::Timed(Act::NoRecord)),
+    (b"readerr", Name::Timed(Act::ReadError)),
 ];
 
-// The name that a table has for a word: by the first entry that the word is.
-fn name_in(verbs: Verbs, word: &[u8]) -> Name
-    ensures { result ≡ name_in (map entry_of verbs) word.now }
+// The name that a table has for a word: by the first entry that the word is. (A table and no map: no heap, and `name_in` has it.)
+#[tactic(auto, unfolding(crate::specs::Calls::name_in))]
+fn name_in(verbs: &[Verb], word: &[u8]) -> Option<Name>
+    ensures { result ≡ name_in (map entry_of verbs.now) word.now }
 {
-    let mut i = 0;
-    while i < verbs.len() {
-        let verb = verbs[i];
-        if same(word, first(&verb.0)) {
-            return verb.1;
+    for (verb, name) in verbs {
+        if word == *verb {
+            return Some(*name);
         }
-        i += 1;
     }
-    Name::Unknown
+    None
 }
 
 // The name that a word is.
-fn name_of(word: &[u8]) -> Name
+fn name_of(word: &[u8]) -> Option<Name>
     ensures { result ≡ name_of word.now }
 {
-    name_in(VERBS, word)
+    name_in(&VERBS, word)
 }
 
-// The clock, and the entry where it is below 2^32.
-fn pair_of(clock: Number, entry: Number) -> Pair
-    ensures { result ≡ pair_of clock entry }
+// CLOCK, and ENTRY where it is below 2^32.
+fn head_of(clock: &[u8], entry: &[u8]) -> Option<Head>
+    ensures { result ≡ head_of (number_of clock.now) (number_of entry.now) }
 {
-    match clock {
-        Number::Value(c) => match entry {
-            Number::Value(e) => {
-                if e < 4294967296 {
-                    return Pair::Both {
-                        clock: c,
-                        entry: e as u32,
-                    };
-                }
-                Pair::Broken
-            }
-            Number::Invalid => Pair::Broken,
-        },
-        Number::Invalid => Pair::Broken,
-    }
-}
-
-fn timed_of(act: Act, pair: Pair) -> Line
-    ensures { result ≡ timed_of act pair }
-{
-    match pair {
-        Pair::Both { clock, entry } => Line::Timed { act, clock, entry },
-        Pair::Broken => Line::Wrong,
-    }
+    let clock = number_of(clock)?;
+    let entry = u32::try_from(number_of(entry)?).ok()?;
+    Some(Head { clock, entry })
 }
 
 // Whether a text is bytes of a kind: a value has any count, the others at most 512.
@@ -121,175 +86,129 @@ fn is_data(kind: Kind, s: &[u8]) -> bool
     }
 }
 
-fn data_of(kind: Kind, pair: Pair, is: bool, start: usize) -> Line
-    ensures { result ≡ data_of kind pair is start }
+fn most(parameter: Parameter) -> u64
+    ensures { result ≡ most_of parameter }
 {
-    match pair {
-        Pair::Both { clock, entry } => {
-            if is {
-                return Line::Data {
-                    kind,
-                    clock,
-                    entry,
-                    start,
-                };
-            }
-            Line::Wrong
-        }
-        Pair::Broken => Line::Wrong,
-    }
-}
-
-fn invoke_of(pair: Pair, word: u32, start: usize) -> Line
-    ensures { result ≡ invoke_of pair word start }
-{
-    match pair {
-        Pair::Both { clock, entry } => Line::Invoke {
-            clock,
-            entry,
-            word,
-            start,
-        },
-        Pair::Broken => Line::Wrong,
-    }
-}
-
-fn deliver_of(clock: Number, is: bool, start: usize) -> Line
-    ensures { result ≡ deliver_of clock is start }
-{
-    match clock {
-        Number::Value(v) => {
-            if is {
-                return Line::Deliver { clock: v, start };
-            }
-            Line::Wrong
-        }
-        Number::Invalid => Line::Wrong,
-    }
-}
-
-fn most(p: Parameter) -> u64
-    ensures { result ≡ most_of p }
-{
-    match p {
+    match parameter {
         Parameter::Room => 256,
         Parameter::Records => 70,
         Parameter::Session => 65535,
     }
 }
 
-fn set_of(p: Parameter, number: Number) -> Line
-    ensures { result ≡ set_of p number }
+// CLOCK ENTRY, after the name.
+#[tactic(auto, unfolding(crate::specs::Calls::timed_in))]
+fn timed_in(act: Act, line: &[u8]) -> Option<Line>
+    ensures { result ≡ timed_in act (rest_of line.now) }
 {
-    match number {
-        Number::Value(n) => {
-            if n <= most(p) {
-                return Line::Set {
-                    parameter: p,
-                    n: n as usize,
-                };
-            }
-            Line::Wrong
-        }
-        Number::Invalid => Line::Wrong,
+    let (_, words) = split_word(line);
+    let (clock, entry) = split_word(words);
+    let head = head_of(clock, entry)?;
+    Some(Line::Timed { act, head })
+}
+
+// CLOCK ENTRY HEX.
+#[tactic(auto, unfolding(crate::specs::Calls::head_in, crate::specs::Calls::data_in))]
+fn data_in(kind: Kind, line: &[u8]) -> Option<Line>
+    ensures { result ≡ data_in kind line.now (rest_of line.now) }
+{
+    let (_, words) = split_word(line);
+    let (clock, words) = split_word(words);
+    let (entry, digits) = split_word(words);
+    let head = head_of(clock, entry)?;
+    if !is_data(kind, digits) {
+        return None;
     }
+    let start = line.len() - digits.len();
+    Some(Line::Data { kind, head, start })
 }
 
-fn timed_in(act: Act, r: &[u8]) -> Line
-    ensures { result ≡ timed_in act r.now }
+// CLOCK ENTRY WORD HEX.
+#[tactic(auto, unfolding(crate::specs::Calls::head_in, crate::specs::Calls::invoke_in, crate::specs::Reading::is_word))]
+fn invoke_in(line: &[u8]) -> Option<Line>
+    ensures { result ≡ invoke_in line.now (rest_of line.now) }
 {
-    timed_of(act, pair_of(number_of(first(r)), number_of(rest(r))))
-}
-
-// CLOCK and ENTRY, where more words follow them.
-fn pair_in(r: &[u8]) -> Pair
-    ensures { result ≡ pair_in r.now }
-{
-    pair_of(number_of(first(r)), number_of(first(rest(r))))
-}
-
-fn data_in(kind: Kind, line: &[u8], r: &[u8]) -> Line
-    requires { length r.now ≤ length line.now }
-    ensures { result ≡ data_in kind line.now r.now }
-{
-    let third = rest(rest(r));
-    data_of(
-        kind,
-        pair_in(r),
-        is_data(kind, third),
-        line.len() - third.len(),
-    )
-}
-
-fn invoke_in(line: &[u8], r: &[u8]) -> Line
-    requires { length r.now ≤ length line.now }
-    ensures { result ≡ invoke_in line.now r.now }
-{
-    let third = rest(rest(r));
-    let fourth = rest(third);
-    if is_word(first(third)) & is_frame(fourth) {
-        let word = word_at(line, line.len() - third.len());
-        return invoke_of(pair_in(r), word, line.len() - fourth.len());
+    let (_, words) = split_word(line);
+    let (clock, words) = split_word(words);
+    let (entry, words) = split_word(words);
+    let (word, digits) = split_word(words);
+    let head = head_of(clock, entry)?;
+    if !is_word(word) || !is_frame(digits) {
+        return None;
     }
-    Line::Wrong
+    let word = word_at(line, line.len() - words.len());
+    let start = line.len() - digits.len();
+    Some(Line::Invoke { head, word, start })
 }
 
-fn deliver_in(line: &[u8], r: &[u8]) -> Line
-    requires { length r.now ≤ length line.now }
-    ensures { result ≡ deliver_in line.now r.now }
+// CLOCK HEX.
+#[tactic(auto, unfolding(crate::specs::Calls::deliver_in))]
+fn deliver_in(line: &[u8]) -> Option<Line>
+    ensures { result ≡ deliver_in line.now (rest_of line.now) }
 {
-    let second = rest(r);
-    deliver_of(
-        number_of(first(r)),
-        is_frame(second),
-        line.len() - second.len(),
-    )
-}
-
-fn check_in(line: &[u8], r: &[u8]) -> Line
-    requires { length r.now ≤ length line.now }
-    ensures { result ≡ check_in line.now r.now }
-{
-    if is_frame(r) {
-        return Line::Check {
-            start: line.len() - r.len(),
-        };
+    let (_, words) = split_word(line);
+    let (clock, digits) = split_word(words);
+    let clock = number_of(clock)?;
+    if !is_frame(digits) {
+        return None;
     }
-    Line::Wrong
+    let start = line.len() - digits.len();
+    Some(Line::Deliver { clock, start })
+}
+
+// HEX.
+#[tactic(auto, unfolding(crate::specs::Calls::check_in))]
+fn check_in(line: &[u8]) -> Option<Line>
+    ensures { result ≡ check_in line.now (rest_of line.now) }
+{
+    let (_, digits) = split_word(line);
+    if !is_frame(digits) {
+        return None;
+    }
+    let start = line.len() - digits.len();
+    Some(Line::Check { start })
+}
+
+// N, at most what the parameter may be.
+#[tactic(auto, unfolding(crate::specs::Calls::set_in))]
+fn set_in(parameter: Parameter, line: &[u8]) -> Option<Line>
+    ensures { result ≡ set_in parameter (rest_of line.now) }
+{
+    let (_, number) = split_word(line);
+    let n = number_of(number)?;
+    if n > most(parameter) {
+        return None;
+    }
+    let n = n as usize;
+    Some(Line::Set { parameter, n })
 }
 
 // The call of a name, by the line that begins with it.
-fn call_of(name: Name, line: &[u8]) -> Line
-    ensures { result ≡ call_of name line.now }
+fn call_of(line: &[u8], name: Name) -> Option<Line>
+    ensures { result ≡ call_of line.now name }
 {
-    let r = rest(line);
     match name {
-        Name::Load => {
-            if is_load(line) {
-                return Line::Load;
-            }
-            Line::Wrong
-        }
-        Name::Timed(act) => timed_in(act, r),
-        Name::Data(kind) => data_in(kind, line, r),
-        Name::Invoke => invoke_in(line, r),
-        Name::Deliver => deliver_in(line, r),
-        Name::Check => check_in(line, r),
-        Name::Set(p) => set_of(p, number_of(r)),
-        Name::Unknown => Line::Wrong,
+        Name::Load => is_load(line).then_some(Line::Load),
+        Name::Timed(act) => timed_in(act, line),
+        Name::Data(kind) => data_in(kind, line),
+        Name::Invoke => invoke_in(line),
+        Name::Deliver => deliver_in(line),
+        Name::Check => check_in(line),
+        Name::Set(parameter) => set_in(parameter, line),
     }
 }
 
-// What a line is, without its newline.
-pub fn parse(line: &[u8]) -> Line
+// What a line is, without its newline; `None` where it has none of these forms.
+#[tactic(auto, unfolding(crate::specs::Calls::line_of))]
+pub fn parse(line: &[u8]) -> Option<Line>
     ensures { result ≡ line_of line.now }
 {
-    let n = line.len();
-    if 4096 < n {
-        return Line::Wrong;
+    if line.len() > 4096 {
+        return None;
     }
-    if (n == 0) | (byte_at(line, 0) == 35) {
-        return Line::Nothing;
+    if line.is_empty() || line[0] == b'#' {
+        return Some(Line::Nothing);
     }
-    call_of(name_of(first(line)), line)
+    let (word, _) = split_word(line);
+    call_of(line, name_of(word)?)
 }

@@ -1,100 +1,82 @@
-// Pieces of text put into a lent output: bytes, texts, decimal numbers, hexadecimal digits.
-ghost use Rattle.std.specs.Prelude.{◌≡◌, ◌+◌, ◌*◌, ◌/◌, ◌%◌, ◌<◌, ◌≤◌, [], ◌∷◌, length};
-ghost use Rattle.words.specs.Output.{put};
-ghost use Rattle.text.specs.Printing.{last_digits, width_from, digits_of, hex_digit, hex_of, Puts};
+// Text put into a lent output from its front on, a piece at a time.
+ghost use Rattle.std.specs.Prelude.{◌≡◌, ◌+◌, ◌*◌, ◌<◌, ◌≤◌, [], ◌∷◌, length, decimal};
+ghost use Rattle.text.specs.Printing.{last_digits, hex_digit, hex_of, HasRoom, Puts};
 
-use words::copy;
-
-// The byte b at k.
-pub(crate) fn put_byte(out: &mut [u8], k: usize, b: u8)
-    requires { k + 1 ≤ length out.old }
-    ensures { out.new ≡ put out.old k (b ∷ []) }
-{
-    out[k] = b;
+// A lent output, and the place in it where the next piece goes. Each piece asks for its room: memory is fixed.
+// It is no `Display`, whose contract says nothing of a failed write: `put_answer` and its like may not fail.
+#[derive(Drop)]
+pub(crate) struct Writer<'a> {
+    pub(crate) out: &'a mut [u8],
+    pub(crate) at: usize,
 }
 
-// The bytes a and b at k.
-pub(crate) fn put_two(out: &mut [u8], k: usize, a: u8, b: u8)
-    requires { k + 2 ≤ length out.old }
-    ensures { out.new ≡ put out.old k (a ∷ b ∷ []) }
-{
-    out[k] = a;
-    out[k + 1] = b;
-}
+impl Writer<'_> {
+    pub(crate) fn byte(&mut self, byte: u8)
+        requires { HasRoom 1 self.old }
+        ensures { Puts 1 (byte ∷ []) self.old self.new }
+    {
+        self.out[self.at] = byte;
+        self.at += 1;
+    }
 
-// The text at k, and the place after it.
-pub(crate) fn put_text(out: &mut [u8], k: usize, text: &[u8]) -> usize
-    requires { k + length text.now ≤ length out.old }
-    ensures { Puts out.old k text.now out.new result }
-{
-    k + copy(text, &mut out[k..])
-}
+    pub(crate) fn text(&mut self, text: &[u8])
+        requires { HasRoom (length text.now) self.old }
+        ensures { Puts (length text.now) text.now self.old self.new }
+    {
+        let end = self.at + text.len();
+        self.out[self.at..end].copy_from_slice(text);
+        self.at = end;
+    }
 
-fn width(n: u64) -> usize
-    ensures { (result ≡ width_from 19 n) × (result ≤ 20) }
-{
-    let mut left: usize = 19;
-    let mut v = n;
-    while 0 < left {
-        if v < 10 {
-            return 20 - left;
+    // The last `width` decimal digits of n.
+    pub(crate) fn last_digits(&mut self, width: usize, n: u64)
+        requires { HasRoom width self.old }
+        ensures { Puts width (last_digits width n) self.old self.new }
+    {
+        if width > 0 {
+            self.last_digits(width - 1, n / 10);
+            self.byte(b'0' + (n % 10) as u8);
         }
-        v = v / 10;
-        left -= 1;
     }
-    20
-}
 
-// The last w decimal digits of n at k.
-pub(crate) fn put_digits(out: &mut [u8], k: usize, w: usize, n: u64)
-    requires { k + w ≤ length out.old }
-    ensures { out.new ≡ put out.old k (last_digits w n) }
-{
-    let mut i = w;
-    let mut v = n;
-    while 0 < i {
-        i -= 1;
-        out[k + i] = (48 + v % 10) as u8;
-        v = v / 10;
+    // The decimal digits of n, as many as there are.
+    fn digits(&mut self, n: u64)
+        requires { HasRoom (length (decimal n)) self.old }
+        ensures { Puts (length (decimal n)) (decimal n) self.old self.new }
+    {
+        if n < 10 {
+            return self.byte(b'0' + n as u8);
+        }
+        self.digits(n / 10);
+        self.byte(b'0' + (n % 10) as u8)
+    }
+
+    pub(crate) fn decimal(&mut self, n: u64)
+        requires { HasRoom 20 self.old }
+        ensures { Puts 20 (decimal n) self.old self.new }
+    {
+        self.digits(n);
+    }
+
+    // The digits of all bytes.
+    pub(crate) fn hex(&mut self, bytes: &[u8])
+        requires { HasRoom (2 * length bytes.now) self.old }
+        ensures { Puts (2 * length bytes.now) (hex_of bytes.now) self.old self.new }
+    {
+        for byte in bytes {
+            self.byte(hex_digit(byte / 16));
+            self.byte(hex_digit(byte % 16));
+        }
     }
 }
 
-// The number n at k, and the place after it.
-pub(crate) fn put_decimal(out: &mut [u8], k: usize, n: u64) -> usize
-    requires { k + 20 ≤ length out.old }
-    ensures { (Puts out.old k (digits_of n) out.new result) × (result ≤ k + 20) }
+fn hex_digit(digit: u8) -> u8
+    requires { digit < 16 }
+    ensures { result ≡ hex_digit digit }
 {
-    let w = width(n);
-    put_digits(out, k, w, n);
-    k + w
-}
-
-fn hex_digit(d: u8) -> u8
-    requires { d < 16 }
-    ensures { result ≡ hex_digit d }
-{
-    if d < 10 {
-        return 48 + d;
-    }
-    87 + d
-}
-
-// The two digits of the byte b at k.
-fn put_hex_byte(out: &mut [u8], k: usize, b: u8)
-    requires { k + 2 ≤ length out.old }
-    ensures { out.new ≡ put out.old k (hex_digit (b / 16) ∷ hex_digit (b % 16) ∷ []) }
-{
-    put_two(out, k, hex_digit(b / 16), hex_digit(b % 16));
-}
-
-// The digits of all bytes at k.
-pub(crate) fn put_hex(out: &mut [u8], k: usize, bytes: &[u8])
-    requires { k + 2 * length bytes.now ≤ length out.old }
-    ensures { out.new ≡ put out.old k (hex_of bytes.now) }
-{
-    let mut i = 0;
-    while i < bytes.len() {
-        put_hex_byte(out, k + 2 * i, bytes[i]);
-        i += 1;
+    if digit < 10 {
+        b'0' + digit
+    } else {
+        b'a' + (digit - 10)
     }
 }

@@ -1,33 +1,38 @@
-// Words of a line, separated by one space.
-ghost use Rattle.std.specs.Prelude.{◌≡◌, ◌≤◌, length};
-ghost use Rattle.words.specs.Bytes.{index_of};
+// Words of a line, separated by one space; a line up to its newline.
+ghost use Rattle.std.specs.Prelude.{◌≡◌, ◌≤◌, ◌==◌, nat_lt, length, is_some, position, IfSome, IfNone, []};
+ghost use Rattle.std.specs.List.{before_first, after_first, position_or_len};
 ghost use Rattle.text.specs.Reading.{word_in, rest_of};
 
-use words::find;
-
-// The length of the first word.
-fn word_length(s: &[u8]) -> usize
-    ensures { (result ≡ index_of 32 s.now) × (result ≤ length s.now) }
+// The place of the first such byte, where there is one. (Beside words' find, whose clause is of a place past the bytes.)
+fn find(s: &[u8], byte: u8) -> Option<usize>
+    ensures { result ≡ position (λ b. b == byte) s.now }
 {
-    find(s, 0, s.len(), 32)
+    s.iter().position(|b| *b == byte)
 }
 
-// The bytes before the first space.
-pub(crate) fn first(s: &[u8]) -> &[u8]
-    ensures { result.now ≡ word_in s.now }
+// What stands before the first `at`, and what stands after it where there is one.
+pub(crate) fn cut(s: &[u8], at: u8) -> (&[u8], Option<&[u8]>)
+    ensures before { result.0.now ≡ before_first (λ b. b == at) s.now }
+    ensures found { is_some result.1
+        ≡ nat_lt (position_or_len (λ b. b == at) s.now) (length s.now) }
+    ensures after { IfSome result.1 (λ rest. rest.now ≡ after_first (λ b. b == at) s.now) }
+    ensures none_after { IfNone result.1 (after_first (λ b. b == at) s.now ≡ []) }
+    ensures within { length result.0.now ≤ length s.now }
 {
-    let e = word_length(s);
-    &s[..e]
-}
-
-// The bytes after the first space.
-pub(crate) fn rest(s: &[u8]) -> &[u8]
-    ensures { (result.now ≡ rest_of s.now) × (length result.now ≤ length s.now) }
-{
-    let e = word_length(s);
-    if e < s.len() {
-        let a = e + 1;
-        return &s[a..];
+    match find(s, at) {
+        Some(e) => (&s[..e], Some(&s[e + 1..])),
+        None => (s, None),
     }
-    &s[e..]
+}
+
+// The bytes before the first space, and those after it.
+#[tactic(auto, unfolding(crate::specs::Reading::word_in, crate::specs::Reading::rest_of))]
+pub(crate) fn split_word(s: &[u8]) -> (&[u8], &[u8])
+    ensures word { result.0.now ≡ word_in s.now }
+    ensures rest { result.1.now ≡ rest_of s.now }
+    ensures shorter { length result.1.now ≤ length s.now }
+    ensures within { length result.0.now ≤ length s.now }
+{
+    let (word, rest) = cut(s, b' ');
+    (word, rest.unwrap_or(&[]))
 }

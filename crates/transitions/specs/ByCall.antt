@@ -1,14 +1,11 @@
 -- What a user's call that is done leaves.
-use Rattle.std.specs.Prelude.{ℕ, ◌+◌, ◌%◌, Bool, true, false, cond, not, ◌||◌}
+use Rattle.std.specs.Prelude.{ℕ, ◌+◌, ◌%◌, Bool, false, cond, not, ◌||◌}
+use Rattle.std.specs.Prelude.{None, Option, Some}
 use Rattle.frame.specs.declared.Command.{Command}
 use Rattle.frame.specs.declared.Command.TheVariants as K
-use Rattle.frame.specs.declared.Subconnection.{Subconnection}
-use Rattle.frame.specs.declared.Subconnection.TheVariants.{Absent, Number}
 use Rattle.frame.specs.Control.{is}
 use Rattle.endpoint.specs.declared.Settings.{Settings}
 use Rattle.endpoint.specs.declared.State.TheVariants.{Close, Starting}
-use Rattle.endpoint.specs.declared.Timestamp.TheVariants.{Never}
-use Rattle.endpoint.specs.declared.Pending.TheVariants.{Nothing, Asked}
 use Rattle.endpoint.specs.declared.Queue.{Queue}
 use Rattle.endpoint.specs.declared.Measurement.{Measurement}
 use Rattle.endpoint.specs.declared.Queue.TheVariants as Q
@@ -20,20 +17,20 @@ use Rattle.endpoint.specs.Updates.{with_session, with_queue, with_invoked, measu
 use Rattle.endpoint.specs.Updates.{with_error_info, holding}
 
 -- the session number after a loading or a restart: a slave's user gives it; a master has none until the S-Connect reply
-abbrev pub session_from : Bool → ℕ → Subconnection
-session_from slave number = cond slave (Number number) Absent
+abbrev pub session_from : Bool → ℕ → Option ℕ
+session_from slave number = cond slave (Some number) None
 
 -- a connection as loaded, with this session number
 abbrev pub fresh_of : Settings → ℕ → Endpoint
 fresh_of s number =
-    endpoint_of s Close (session_from s.slave number) 0 (record { sent = Never; accepted = Never })
-    (record { pending = Nothing; measured = 0; offset = 0; requests = 0; queue = Q.Empty; invoked = false })
+    endpoint_of s Close (session_from s.slave number) 0 (record { sent = None; accepted = None })
+    (record { pending = None; measured = 0; offset = 0; requests = 0; queue = Q.Empty; invoked = false })
     (measurement_of false false 0) (record { notready = false }) (words_of 0 no_bytes) (words_of 0 no_record) no_value
 
 -- start; the count of requests begins anew, and the queue
 abbrev pub started_of : Endpoint → ℕ → Endpoint
 started_of e t =
-    in_state Starting (timed_from t (with_invoked false (with_queue Q.Empty (with_requests 0 (with_pending Nothing
+    in_state Starting (timed_from t (with_invoked false (with_queue Q.Empty (with_requests 0 (with_pending None
     (holding no_value e))))))
 
 -- restart, with this session number; what is remembered of timestamps stays, and the count of requests
@@ -57,7 +54,7 @@ abbrev pub requested_at : Endpoint → ℕ → ℕ → Endpoint
 requested_at e t stamp =
     timed_from t (with_sent stamp (with_invoked (invoked_after (request_due e) e.setup.invoked)
     (with_queue (queue_after (request_due e) e.setup.queue)
-    (with_requests (counted_of e (request_due e)) (with_pending (Asked stamp) e)))))
+    (with_requests (counted_of e (request_due e)) (with_pending (Some stamp) e)))))
 
 -- the same, with the endpoint's time
 abbrev pub requested_of : Endpoint → ℕ → Endpoint
@@ -74,7 +71,7 @@ measurement_after k t m = cond (is k K.RefreshMo) (measurement_of false (not m.s
 -- send: one of the two, with this timestamp; its reply is awaited
 abbrev pub measurement_sent_at : Endpoint → Command → ℕ → ℕ → Endpoint
 measurement_sent_at e k t stamp =
-    with_sent stamp (with_pending (Asked stamp) (with_measurement (measurement_after k t e.measurement) e))
+    with_sent stamp (with_pending (Some stamp) (with_measurement (measurement_after k t e.measurement) e))
 
 -- the same, with the endpoint's time
 abbrev pub measurement_sent_of : Endpoint → Command → ℕ → Endpoint

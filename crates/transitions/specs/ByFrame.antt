@@ -1,12 +1,11 @@
 -- What a frame of this connection that is taken leaves.
 use Rattle.std.specs.Prelude.{ℕ, Bool, true, false, cond, List}
+use Rattle.std.specs.Prelude.{None, Option}
 use Rattle.frame.specs.declared.Command.{Command}
 use Rattle.frame.specs.declared.Command.TheVariants as K
-use Rattle.frame.specs.declared.Subconnection.{Subconnection}
 use Rattle.frame.specs.declared.Fields.{Fields}
 use Rattle.frame.specs.Control.{is}
 use Rattle.endpoint.specs.declared.State.TheVariants.{Refresh, Terminate, TerminateMore}
-use Rattle.endpoint.specs.declared.Pending.TheVariants.{Nothing}
 use Rattle.endpoint.specs.declared.Queue.TheVariants.{Empty}
 use Rattle.endpoint.specs.declared.Measurement.{Measurement}
 use Rattle.endpoint.specs.Endpoint.{Endpoint, value_of}
@@ -89,25 +88,25 @@ taken_of e t f more =
 
 -- ---- a reply at a master: to its pending request
 -- the session number comes with the reply to S-Connect
-abbrev pub session_by : Endpoint → Fields → Subconnection
+abbrev pub session_by : Endpoint → Fields → Option ℕ
 session_by e f = cond (is (request_due e) K.Connect) f.subconnection e.session
 
 -- the next state
 abbrev pub confirmed_of : Endpoint → ℕ → Fields → Endpoint
 confirmed_of e t f =
     in_state (state_to (next_of (request_due e) e.state) e.state)
-    (timed_from t (with_pending Nothing (with_session (session_by e f)
+    (timed_from t (with_pending None (with_session (session_by e f)
     (with_measured (measured_by (request_due e) t e.setup.measured)
     (with_measurement (measurement_by (request_due e) t e.measurement) (holding no_value e))))))
 
 -- Busy: the request is due again, with a new timestamp; the timer starts afresh, the state and m2 stay (001: MT30 to
 -- MT32)
 abbrev pub due_again_of : Endpoint → ℕ → Endpoint
-due_again_of e t = timed_from t (with_pending Nothing e)
+due_again_of e t = timed_from t (with_pending None e)
 
 -- the queued command has its reply and waits no longer: the state stays
 abbrev pub performed_of : Endpoint → ℕ → Endpoint
-performed_of e t = timed_from t (with_pending Nothing (with_queue Empty e))
+performed_of e t = timed_from t (with_pending None (with_queue Empty e))
 
 -- in setup
 abbrev pub setup_heard_of : Endpoint → ℕ → Fields → Endpoint
@@ -116,8 +115,8 @@ setup_heard_of e t f = cond f.busy (due_again_of e t) (cond (is_command_due e) (
 -- in Refresh: m2 comes with the reply to S-RefreshMO, and S-RefreshGO is due; its own reply closes the measurement
 abbrev pub measurement_heard_of : Endpoint → ℕ → Fields → Endpoint
 measurement_heard_of e t f =
-    cond (is f.command K.RefreshMo) (with_pending Nothing (with_measured t (with_answered true e)))
-    (with_pending Nothing (with_answered false e))
+    cond (is f.command K.RefreshMo) (with_pending None (with_measured t (with_answered true e)))
+    (with_pending None (with_answered false e))
 
 -- what a reply that is done leaves
 abbrev pub heard_of : Endpoint → ℕ → Fields → Endpoint

@@ -1,4 +1,5 @@
-// What a frame of this connection that is taken leaves: each step is what it changes.
+// What a frame of this connection that is taken leaves: each step is what it changes. Core, clock and fields are handed
+// on as the definitions have them (`advanced_of e t f`): a struct of the three would be taken apart in every clause.
 ghost use Rattle.std.specs.Prelude.{◌≡◌};
 ghost use Rattle.endpoint.specs.Endpoint.{no_bytes, bare, core_of};
 ghost use Rattle.transitions.specs.ByFrame.{refreshed_at, ended_by, measured_by, offset_by, advanced_of};
@@ -6,19 +7,16 @@ ghost use Rattle.transitions.specs.ByFrame.{deferred_of, answered_of, reported_o
 ghost use Rattle.transitions.specs.ByFrame.{measurement_by, remeasured_of, adjusted_of, synchronized_of, performed_of};
 ghost use Rattle.transitions.specs.ByFrame.{session_by, setup_heard_of, measurement_heard_of, heard_of};
 
-use endpoint::due::{is_command_due, is_held_back, request_due};
-use endpoint::table::{is_state, next_state, state_to};
-use endpoint::time::{ended, offset_from};
-use endpoint::updates::{in_state, with_accepted, with_pending, with_queue, with_session};
-use endpoint::{Core, Measurement, Pending, Queue, State};
-use frame::control::is;
-use frame::{Command, Fields, Subconnection};
+use endpoint::time::offset_from;
+use endpoint::{Core, Measurement, Queue, State};
+use frame::{Command, Fields};
 
 // A value of this age was accepted; its bytes are kept by the caller.
 pub fn refreshed(e: Core, clock: u64, stamp: u64, age: u64) -> Core
     ensures { result ≡ core_of (refreshed_at (bare e) clock stamp age no_bytes) }
 {
-    let mut next = with_accepted(stamp, e);
+    let mut next = e;
+    next.timestamps.accepted = Some(stamp);
     next.since = clock;
     next.taken = true;
     next.valueage = age;
@@ -28,58 +26,57 @@ pub fn refreshed(e: Core, clock: u64, stamp: u64, age: u64) -> Core
 pub fn ended_by(e: Core, stamp: u64) -> Core
     ensures { result ≡ core_of (ended_by (bare e) stamp) }
 {
-    with_accepted(stamp, ended(e))
+    let mut next = e.ended();
+    next.timestamps.accepted = Some(stamp);
+    next
 }
 
+// S2, or m2, is the clock at S-RefreshReady's reply.
 fn measured_by(k: Command, clock: u64, measured: u64) -> u64
     ensures { result ≡ measured_by k clock measured }
 {
-    if is(k, Command::RefreshReady) {
-        clock
-    } else {
-        measured
+    match k {
+        Command::RefreshReady => clock,
+        _ => measured,
     }
 }
 
+// Ts_offset comes with S-RefreshGO.
 fn offset_by(e: Core, f: Fields) -> u64
     ensures { result ≡ offset_by (bare e) f }
 {
-    let k = f.command;
-    if is(k, Command::RefreshGo) {
-        return offset_from(f.timestamp, f.baseline, e.setup.measured);
+    match f.command {
+        Command::RefreshGo => offset_from(f.timestamp, f.baseline, e.setup.measured),
+        _ => e.setup.offset,
     }
-    e.setup.offset
 }
 
 // S-RefreshGO leads into Refresh, where none is measured yet.
+// Beside by_call's measurement_after: each meets its own definition, at another command, and they share a literal alone.
 fn measurement_by(k: Command, reference: u64, m: Measurement) -> Measurement
     ensures { result ≡ measurement_by k reference m }
 {
-    if is(k, Command::RefreshGo) {
-        return Measurement {
+    match k {
+        Command::RefreshGo => Measurement {
             answered: false,
             sequence: false,
-            reference: reference,
-        };
+            reference,
+        },
+        _ => m,
     }
-    m
 }
 
 fn advanced(e: Core, clock: u64, f: Fields) -> Core
     ensures { result ≡ core_of (advanced_of (bare e) clock f) }
 {
-    let state = e.state;
-    let k = f.command;
-    let s2 = measured_by(k, clock, e.setup.measured);
-    let offset = offset_by(e, f);
-    let last = e.measurement;
-    let measurement = measurement_by(k, e.setup.measured, last);
-    let to = state_to(next_state(k, state), state);
-    let mut next = in_state(to, with_accepted(f.timestamp, e));
+    let s2 = measured_by(f.command, clock, e.setup.measured);
+    let mut next = e;
+    next.state = e.state.next_state(f.command).unwrap_or(e.state);
     next.since = clock;
+    next.timestamps.accepted = Some(f.timestamp);
     next.setup.measured = s2;
-    next.setup.offset = offset;
-    next.measurement = measurement;
+    next.setup.offset = offset_by(e, f);
+    next.measurement = measurement_by(f.command, e.setup.measured, e.measurement);
     next.taken = false;
     next.valueage = 0;
     next
@@ -89,7 +86,8 @@ fn advanced(e: Core, clock: u64, f: Fields) -> Core
 fn deferred(e: Core, clock: u64, f: Fields) -> Core
     ensures { result ≡ core_of (deferred_of (bare e) clock f) }
 {
-    let mut waiting = with_accepted(f.timestamp, e);
+    let mut waiting = e;
+    waiting.timestamps.accepted = Some(f.timestamp);
     waiting.since = clock;
     waiting
 }
@@ -98,18 +96,19 @@ fn deferred(e: Core, clock: u64, f: Fields) -> Core
 fn answered(e: Core, clock: u64, f: Fields) -> Core
     ensures { result ≡ core_of (answered_of (bare e) clock f) }
 {
-    let k = f.command;
-    if is_held_back(e, k) {
-        return deferred(e, clock, f);
+    if e.is_held_back(f.command) {
+        deferred(e, clock, f)
+    } else {
+        advanced(e, clock, f)
     }
-    advanced(e, clock, f)
 }
 
 // S-RefreshMO in Refresh.
 fn remeasured(e: Core, clock: u64, f: Fields) -> Core
     ensures { result ≡ core_of (remeasured_of (bare e) clock f) }
 {
-    let mut next = with_accepted(f.timestamp, e);
+    let mut next = e;
+    next.timestamps.accepted = Some(f.timestamp);
     next.setup.measured = clock;
     next.measurement.answered = true;
     next.measurement.sequence = f.sequence;
@@ -120,9 +119,9 @@ fn remeasured(e: Core, clock: u64, f: Fields) -> Core
 fn adjusted(e: Core, f: Fields) -> Core
     ensures { result ≡ core_of (adjusted_of (bare e) f) }
 {
-    let offset = offset_by(e, f);
-    let mut next = with_accepted(f.timestamp, e);
-    next.setup.offset = offset;
+    let mut next = e;
+    next.timestamps.accepted = Some(f.timestamp);
+    next.setup.offset = offset_by(e, f);
     next.measurement.answered = false;
     next.measurement.reference = e.setup.measured;
     next
@@ -132,68 +131,57 @@ fn adjusted(e: Core, f: Fields) -> Core
 fn synchronized(e: Core, clock: u64, f: Fields) -> Core
     ensures { result ≡ core_of (synchronized_of (bare e) clock f) }
 {
-    let k = f.command;
-    if is(k, Command::RefreshMo) {
-        return remeasured(e, clock, f);
+    match f.command {
+        Command::RefreshMo => remeasured(e, clock, f),
+        _ => adjusted(e, f),
     }
-    adjusted(e, f)
 }
 
 // S-WriteErrorInfo has been taken; more: further error records follow.
 fn reported(e: Core, stamp: u64, more: bool) -> Core
     ensures { result ≡ core_of (reported_of (bare e) stamp more) }
 {
-    let end = ended_by(e, stamp);
+    let mut next = ended_by(e, stamp);
     if more {
-        return in_state(State::TerminateMore, end);
+        next.state = State::TerminateMore;
     }
-    end
+    next
 }
 
 // What a request that is done leaves.
 pub fn taken(e: Core, clock: u64, f: Fields, more: bool) -> Core
     ensures { result ≡ core_of (taken_of (bare e) clock f more) }
 {
-    let k = f.command;
-    if is(k, Command::Disconnect) {
-        return ended_by(e, f.timestamp);
+    match f.command {
+        Command::Disconnect => ended_by(e, f.timestamp),
+        Command::WriteErrorInfo => reported(e, f.timestamp, more),
+        _ if e.state == State::Refresh => synchronized(e, clock, f),
+        _ => answered(e, clock, f),
     }
-    if is(k, Command::WriteErrorInfo) {
-        return reported(e, f.timestamp, more);
-    }
-    let state = e.state;
-    if is_state(state, State::Refresh) {
-        return synchronized(e, clock, f);
-    }
-    answered(e, clock, f)
 }
 
 // The session number comes with the reply to S-Connect.
-fn session_by(e: Core, f: Fields) -> Subconnection
+fn session_by(e: Core, f: Fields) -> Option<u16>
     ensures { result ≡ session_by (bare e) f }
 {
-    if is(request_due(e), Command::Connect) {
-        let session = f.subconnection;
-        return session;
+    match e.request_due() {
+        Command::Connect => f.subconnection,
+        _ => e.session,
     }
-    let session = e.session;
-    session
 }
 
 fn confirmed(e: Core, clock: u64, f: Fields) -> Core
     ensures { result ≡ core_of (confirmed_of (bare e) clock f) }
 {
-    let state = e.state;
-    let k = request_due(e);
-    let m2 = measured_by(k, clock, e.setup.measured);
-    let last = e.measurement;
-    let measurement = measurement_by(k, clock, last);
-    let to = state_to(next_state(k, state), state);
-    let session = session_by(e, f);
-    let mut next = in_state(to, with_session(session, with_pending(Pending::Nothing, e)));
+    let request = e.request_due();
+    let m2 = measured_by(request, clock, e.setup.measured);
+    let mut next = e;
+    next.state = e.state.next_state(request).unwrap_or(e.state);
+    next.session = session_by(e, f);
     next.since = clock;
+    next.setup.pending = None;
     next.setup.measured = m2;
-    next.measurement = measurement;
+    next.measurement = measurement_by(request, clock, e.measurement);
     next.taken = false;
     next.valueage = 0;
     next
@@ -204,7 +192,8 @@ fn confirmed(e: Core, clock: u64, f: Fields) -> Core
 fn due_again(e: Core, clock: u64) -> Core
     ensures { result ≡ core_of (due_again_of (bare e) clock) }
 {
-    let mut again = with_pending(Pending::Nothing, e);
+    let mut again = e;
+    again.setup.pending = None;
     again.since = clock;
     again
 }
@@ -213,7 +202,9 @@ fn due_again(e: Core, clock: u64) -> Core
 fn performed(e: Core, clock: u64) -> Core
     ensures { result ≡ core_of (performed_of (bare e) clock) }
 {
-    let mut next = with_pending(Pending::Nothing, with_queue(Queue::Empty, e));
+    let mut next = e;
+    next.setup.pending = None;
+    next.setup.queue = Queue::Empty;
     next.since = clock;
     next
 }
@@ -223,26 +214,24 @@ fn setup_heard(e: Core, clock: u64, f: Fields) -> Core
     ensures { result ≡ core_of (setup_heard_of (bare e) clock f) }
 {
     if f.busy {
-        return due_again(e, clock);
+        due_again(e, clock)
+    } else if e.is_command_due() {
+        performed(e, clock)
+    } else {
+        confirmed(e, clock, f)
     }
-    if is_command_due(e) {
-        return performed(e, clock);
-    }
-    confirmed(e, clock, f)
 }
 
 // What a reply in Refresh leaves: S-RefreshMO's brings m2, S-RefreshGO's closes the measurement.
 fn measurement_heard(e: Core, clock: u64, f: Fields) -> Core
     ensures { result ≡ core_of (measurement_heard_of (bare e) clock f) }
 {
-    let k = f.command;
-    let mut next = with_pending(Pending::Nothing, e);
-    if is(k, Command::RefreshMo) {
+    let mut next = e;
+    next.setup.pending = None;
+    next.measurement.answered = f.command == Command::RefreshMo;
+    if next.measurement.answered {
         next.setup.measured = clock;
-        next.measurement.answered = true;
-        return next;
     }
-    next.measurement.answered = false;
     next
 }
 
@@ -250,9 +239,8 @@ fn measurement_heard(e: Core, clock: u64, f: Fields) -> Core
 pub fn heard(e: Core, clock: u64, f: Fields) -> Core
     ensures { result ≡ core_of (heard_of (bare e) clock f) }
 {
-    let state = e.state;
-    if is_state(state, State::Refresh) {
-        return measurement_heard(e, clock, f);
+    match e.state {
+        State::Refresh => measurement_heard(e, clock, f),
+        _ => setup_heard(e, clock, f),
     }
-    setup_heard(e, clock, f)
 }

@@ -4,7 +4,9 @@
 
 mod readying;
 
-use frame::{Command, Fields, Subconnection};
+use frame::read::folderpink_check_frame;
+use frame::write::write_frame;
+use frame::{Command, Fields};
 use std::io;
 
 // A line: the name, and the check word of the bytes, top byte first.
@@ -13,8 +15,8 @@ fn crc_line(rt: &impl Print, name: &str, bytes: &[u8]) -> io::Result<()> {
 }
 
 fn crc_vectors(rt: &impl Print) -> io::Result<()> {
-    crc_line(rt, "crc of 32 bytes of zeroes: ", &[0u8; 32])?;
-    crc_line(rt, "crc of 32 bytes of ones: ", &[255u8; 32])?;
+    crc_line(rt, "crc of 32 bytes of zeroes: ", &[0; 32])?;
+    crc_line(rt, "crc of 32 bytes of ones: ", &[255; 32])?;
     let incrementing = [
         0u8, 1, 2, 3, 4, 5, 6, 7, 8, 9, 10, 11, 12, 13, 14, 15, 16, 17, 18, 19, 20, 21, 22, 23, 24,
         25, 26, 27, 28, 29, 30, 31,
@@ -43,7 +45,7 @@ fn connect() -> Fields {
         error: false,
         sequence: false,
         application: false,
-        subconnection: Subconnection::Absent,
+        subconnection: None,
         connection: 0x01020103,
         timestamp: 1000,
         baseline: 0,
@@ -53,15 +55,10 @@ fn connect() -> Fields {
 fn refresh() -> Fields {
     Fields {
         command: Command::Refresh,
-        ack: false,
-        busy: false,
-        error: false,
-        sequence: false,
         application: true,
-        subconnection: Subconnection::Number(7),
-        connection: 0x01020103,
+        subconnection: Some(7),
         timestamp: 65540,
-        baseline: 0,
+        ..connect()
     }
 }
 
@@ -73,42 +70,33 @@ fn byte_line(rt: &impl Print, name: &str, bytes: &[u8]) -> io::Result<()> {
     println!(rt)
 }
 
-// A line: the name, and the first n bytes of an output.
-fn written_line(rt: &impl Print, name: &str, out: &[u8], n: usize) -> io::Result<()> {
-    if n <= out.len() {
-        byte_line(rt, name, &out[0..n])?;
-    }
-    Ok(())
+// What the frame check says.
+fn check_line(rt: &impl Print, bytes: &[u8]) -> io::Result<()> {
+    println!(rt;
+        "check of {} bytes: {}",
+        bytes.len(),
+        folderpink_check_frame(bytes)
+    )
 }
 
-// A line: the name, and what the frame check says of the first n bytes of an output.
-fn check_line(rt: &impl Print, name: &str, out: &[u8], n: usize) -> io::Result<()> {
-    print!(rt; "{name}")?;
-    if n <= out.len() {
-        print!(rt; "{}", frame::read::folderpink_check_frame(&out[0..n]))?;
-    }
-    println!(rt)
-}
-
+#[tactic(auto, unfolding(words::specs::Output::over))]
 fn main(rt: HostRuntime) -> io::Result<()> {
     crc_vectors(&rt)?;
-    let mut out = [0u8; 256];
-    let n = frame::write::write_frame(connect(), &[0, 0, 0, 1], &mut out);
-    written_line(&rt, "S-Connect request: ", &out, n)?;
-    check_line(&rt, "check of 56 bytes: ", &out, 56)?;
-    check_line(&rt, "check of 48 bytes: ", &out, 48)?;
-    check_line(&rt, "check of 60 bytes: ", &out, 60)?;
-    let value = [0xA5u8; 100];
-    let n = frame::write::write_frame(refresh(), &value, &mut out);
-    written_line(&rt, "S-Refresh of a slave in session 7: ", &out, n)?;
-    check_line(&rt, "check of 248 bytes: ", &out, 248)?;
-    check_line(&rt, "check of 256 bytes: ", &out, 256)?;
-    check_line(&rt, "check of 0 bytes: ", &out, 0)?;
+    let mut out = [0; 256];
+    let n = write_frame(connect(), &[0, 0, 0, 1], &mut out);
+    byte_line(&rt, "S-Connect request: ", &out[..n])?;
+    for length in [56, 48, 60] {
+        check_line(&rt, &out[..length])?;
+    }
+    let n = write_frame(refresh(), &[0xA5; 100], &mut out);
+    byte_line(&rt, "S-Refresh of a slave in session 7: ", &out[..n])?;
+    for length in [248, 256, 0] {
+        check_line(&rt, &out[..length])?;
+    }
     readying::readying(&mut out);
-    written_line(
+    byte_line(
         &rt,
         "S-RefreshGO at 1,040, T code 1,040, OBL 10 and Sub CID 7: ",
-        &out,
-        56,
+        &out[0..56],
     )
 }

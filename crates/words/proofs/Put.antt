@@ -1,21 +1,14 @@
 -- Runs of bytes put into an output one after the other are one run.
 use mathlib.Core.Path.{◌≡◌, sym, ap, ap₂, ◌∙◌}
-use mathlib.Core.List.{List, [], ◌∷◌, ◌++◌, append_assoc, append-nil}
-use Prim.Native.Nat.{ℕ, ◌+◌, ◌-◌, ◌≤◌, ◌<◌}
+use mathlib.Core.List.{List, [], ◌++◌, append_assoc, append-nil}
+use Prim.Native.Nat.{ℕ, ◌+◌, ◌-◌, ◌≤◌}
 use native.Mathlib.Nat.{add_assoc, zero-add, le_refl}
-use native.Mathlib.Numerals.{add-one, add-two, add-three}
 use native.Mathlib.Omega.{arith}
-use lib.ListN.{length, take, drop, set, length-append, length-drop, drop_of_length-le}
-use lib.Seq.{sets-eq, length-take-le, take_at, drop-drop, drop-append-add}
-use borrow.Author.Tests.{le-leb, lt-leb}
+use lib.ListN.{length, take, drop, length-append, length-drop, drop_of_length-le}
+use lib.Seq.{length-take-le, take_at, drop-drop, drop-append-add}
+use borrow.Author.Tests.{le-leb}
 use Rattle.words.specs.Output.{put, put_whole, count_within, over}
 use Rattle.words.proofs.Parts.{tail}
-
--- four stores in a row
-pub put_four : (o : List ℕ) (k a b c d : ℕ) → k + 4 ≤ length o
-    → set (set (set (set o k a) (k + 1) b) (k + 2) c) (k + 3) d ≡ put o k (a ∷ b ∷ c ∷ d ∷ [])
-unfolding put
-put_four o k a b c d h = rw (add-one, add-two, add-three) (sets-eq (a ∷ b ∷ c ∷ d ∷ []) o k h)
 
 pub put_over : (o bytes : List ℕ) → put o 0 bytes ≡ over bytes o
 unfolding put over
@@ -25,10 +18,6 @@ put_over o bytes = rw zero-add
 pub whole : (o : List ℕ) (k : ℕ) (bytes : List ℕ) → k + length bytes ≤ length o → put_whole o k bytes ≡ put o k bytes
 unfolding put_whole
 whole o k bytes h = rw (le-leb (k + length bytes) (length o) h)
-
-pub nothing : (o : List ℕ) (k : ℕ) (bytes : List ℕ) → length o < k + length bytes → put_whole o k bytes ≡ o
-unfolding put_whole
-nothing o k bytes h = rw (lt-leb (k + length bytes) (length o) h)
 
 -- ---- what `copy` leaves where all of them fit, and how many they are
 pub fits : (o bytes : List ℕ) → length bytes ≤ length o → put_whole o 0 bytes ≡ over bytes o

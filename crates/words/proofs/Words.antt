@@ -6,7 +6,7 @@ use native.Mathlib.Nat.{add-zero}
 use native.Mathlib.Numerals.{add-one, add-two, add-three}
 use native.Mathlib.Omega.{arith}
 use lib.Dec.{lit<}
-use lib.ListN.{length, get_or, take, drop, drop_of_length-le}
+use lib.ListN.{length, get_or, take, drop}
 use lib.Seq.{drop-cons, get_or-drop, get_or-append-add, get_or-append_seam}
 use Rattle.words.specs.Bytes.{Bytes, none, more}
 use Rattle.words.specs.Words.{word_of, word_at, word_bytes}
@@ -33,12 +33,9 @@ word_end s v n e =
     (get_or-append-add s (word_bytes v) 3 0 i))
     ∙ of_word v
 
--- ---- the word at k is the first of what stands there
+-- the word at k is the first of what stands there
 pub word_from : (s : List ℕ) (k : ℕ) → word_at (drop k s) 0 ≡ word_at s k
 word_from s k = simp (get_or-drop, add-zero)
-
-pub word_past : (s : List ℕ) (k : ℕ) → length s < k → 0 ≡ word_at s k
-word_past s k h = ap (λ (l : List ℕ). word_at l 0) (sym (drop_of_length-le s {i = k} (omega arith))) ∙ word_from s k
 
 -- ---- parts of bytes
 byte_at : {s : List ℕ} → Bytes s → (k : ℕ) → get_or s k 0 < 256

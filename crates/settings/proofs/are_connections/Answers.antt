@@ -1,27 +1,17 @@
--- `settings::are_connections` meets its contract: so far the first i are right.
-use Rattle.std.proofs.Common.{rules}
+-- `settings::are_connections` meets its contract.
+use Rattle.std.proofs.Common.{rules, ℕ, ◌∙◌, refl, arith}
 use mathlib.Core.Bool.{◌&&◌}
-use mathlib.Core.Path.{◌≡◌, refl, sym, ap, ◌∙◌}
-use native.Mathlib.Numerals.{add-one}
-use native.Mathlib.Omega.{arith}
-use Rattle.settings.specs.Lists.{are_connections}
+use borrow.Author.Tests.{tests}
+use Rattle.std.proofs.lemmas.Iterator.{YieldsList-from_range}
+use Rattle.std.proofs.lemmas.Iterator.Search.{all_from_yields_List}
+use Rattle.settings.specs.Lists.{is_connection_at, is_new_at, are_connections}
+use Rattle.settings.proofs.Below.{all_below}
 use Rattle.settings.proofs.are_connections.Goals as goal
 
-pub loop-i-init : goal.loop-i-init
-unfolding are_connections
-loop-i-init c = (omega arith, refl)
-
-pub loop-i-preserved : goal.loop-i-preserved
-unfolding are_connections
-loop-i-preserved c =
-    let s = c.args.list.now in (
-      search rules,
-      (λ j. c.loop-i.invariant.1 j && (c.is_connection_at.ensures j && c.is_new.ensures j))
-          ∙ ap (are_connections s) (sym (add-one c.loop-i.i)),
-    )
-
 pub returns : goal.returns
+unfolding are_connections is_connection_at
 returns c =
-    let a = c.args in
-    let e : c.loop-i.i ≡ a.n = omega arith in
-    c.loop-i.invariant.1 ∙ ap (are_connections a.list.now) e
+    let ws = c.args.list.now in
+    let n = c.args.n in
+    all_from_yields_List (λ (i : ℕ). is_connection_at ws i && is_new_at ws i i) _ _ c.all.result c.all.ensures.ran
+    (YieldsList-from_range 0 n n refl (omega arith)) (λ x b q k. search (rules, tests)) ∙ all_below _ (are_connections ws) refl (λ i. refl) n

@@ -1,31 +1,17 @@
--- `settings::is_new` meets its contract: so far none of the first n is the same.
-use Rattle.std.proofs.Common.{rules}
-use lib.Dec.{eqb}
-use mathlib.Core.Bool.{◌&&◌, not}
-use mathlib.Core.Path.{◌≡◌, refl, sym, ap, ◌∙◌}
-use native.Mathlib.Numerals.{add-one}
-use native.Mathlib.Omega.{arith}
-use Rattle.settings.specs.Lists.{is_new_at}
+-- `settings::is_new` meets its contract.
+use Rattle.std.proofs.Common.{rules, ℕ, eqb, ◌∙◌, refl, arith}
+use mathlib.Core.Bool.{not}
+use borrow.Author.Tests.{tests}
+use Rattle.std.proofs.lemmas.Iterator.{YieldsList-from_range}
+use Rattle.std.proofs.lemmas.Iterator.Search.{all_from_yields_List}
+use Rattle.settings.specs.Lists.{connection_at, is_new_at}
+use Rattle.settings.proofs.Below.{all_below}
 use Rattle.settings.proofs.is_new.Goals as goal
 
-pub loop-n-init : goal.loop-n-init
-unfolding is_new_at
-loop-n-init c = (omega arith, c.connection_at-own.ensures, refl)
-
-pub loop-n-preserved : goal.loop-n-preserved
-unfolding is_new_at
-loop-n-preserved c =
-    let a = c.args in
-    let s = a.list.now in
-    let n = c.loop-n.n in (
-      search rules,
-      c.loop-n.invariant.1,
-      (λ j. c.loop-n.invariant.2 j && not (eqb (c.loop-n.invariant.1 j) (c.connection_at.ensures j)))
-          ∙ ap (is_new_at s a.i) (sym (add-one n)),
-    )
-
 pub returns : goal.returns
+unfolding is_new_at connection_at
 returns c =
-    let a = c.args in
-    let e : c.loop-n.n ≡ a.i = omega arith in
-    c.loop-n.invariant.2 ∙ ap (is_new_at a.list.now a.i) e
+    let ws = c.args.list.now in
+    let i = c.args.i in
+    all_from_yields_List (λ (n : ℕ). not (eqb (connection_at ws i) (connection_at ws n))) _ _ c.all.result c.all.ensures.ran
+    (YieldsList-from_range 0 i i refl (omega arith)) (λ x b q k. search (rules, tests)) ∙ all_below _ (is_new_at ws i) refl (λ n. refl) i

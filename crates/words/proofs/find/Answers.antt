@@ -1,30 +1,27 @@
--- `words::find` meets its contract: place by place, up to the byte or the end.
-use Rattle.std.proofs.Common.{arith}
-use Rattle.words.proofs.Search.{index_of_here, index_of_next, index_of_none}
+-- `words::find` meets its contract: what the chain of iterators counts.
+use Rattle.std.proofs.Common.{rules, ap, ◌∙◌, ◌+◌, not}
+use Rattle.std.proofs.lemmas.Iterator.{YieldsList-from_slice, YieldsList-from_take}
+use Rattle.std.proofs.lemmas.Iterator.Adapters.{YieldsList-from_skip}
+use Rattle.std.proofs.lemmas.Iterator.Consumers.{YieldsList-at, count_from_yields_List}
+use Rattle.std.proofs.lemmas.Iterator.Search.{YieldsList-from_take_while}
+use borrow.Author.Tests.{tests}
+use lib.Dec.{eqb}
+use Rattle.words.specs.Bytes.{slice}
+use Rattle.words.proofs.Search.{count_before}
 use Rattle.words.proofs.find.Goals as goal
 
-pub returns-then-s-i-clause-place : goal.returns-then-s-i-clause-place
-returns-then-s-i-clause-place c =
-    let a = c.args in
-    omega (arith, index_of_none a.s.now c.loop-i.i a.to a.b (omega arith), c.loop-i.invariant.1)
-
-pub returns-then-s-i-2-clause-place : goal.returns-then-s-i-2-clause-place
-returns-then-s-i-2-clause-place c =
-    let a = c.args in
-    omega (arith, index_of_here a.s.now c.loop-i.i a.to a.b (omega arith) (omega arith) c.if-s-i-2.true, c.loop-i.invariant.1)
-
-pub loop-i-preserved : goal.loop-i-preserved
-loop-i-preserved c =
-    let a = c.args in (
-      λ h. omega arith,
-      omega (
-        arith,
-        index_of_next a.s.now c.loop-i.i a.to a.b (omega arith) (omega arith) c.if-s-i-2.false,
-        c.loop-i.invariant.1,
-      ),
-    )
-
 pub returns-clause-place : goal.returns-clause-place
+unfolding slice
 returns-clause-place c =
     let a = c.args in
-    omega (arith, index_of_none a.s.now c.loop-i.i a.to a.b (omega arith), c.loop-i.invariant.1)
+    ap (λ n. a.from + n) (count_from_yields_List _ _ c.count.ensures.ran
+    (YieldsList-from_take_while _ (λ x. not (eqb x a.b))
+    (YieldsList-at c.take_while.ensures.source
+    (YieldsList-from_skip a.from
+    (YieldsList-at c.skip-part.ensures.source
+    (YieldsList-from_take a.to
+    (YieldsList-at c.take.ensures.source (YieldsList-from_slice a.s.now cc))
+    c.take.ensures.count))
+    c.skip-part.ensures.count))
+    c.take_while.ensures.closure c.take_while.ensures.done (λ x b q k. search (rules, tests)))
+    ∙ count_before a.b (slice a.from a.to a.s.now))

@@ -1,19 +1,24 @@
-use Rattle.std.proofs.Common.{refl, ℕ, List}
+-- What is told does not turn on the bytes of the command.
+use Rattle.std.proofs.Common.{◌≡◌, refl, ap, ◌∙◌, ℕ, ◌+◌, length, rules}
+use Rattle.endpoint.specs.Endpoint.{no_bytes}
+use Rattle.steps.specs.Frames.{padded_of}
+use Rattle.steps.specs.Calls.{command_data, invoke_with}
+use Rattle.steps.specs.Says.{plain_step}
 use Rattle.steps.specs.Steps as S
-use Rattle.records.specs.declared.Record.{Record}
-use Rattle.gateway.specs.declared.Call.{Call}
-use Rattle.gateway.specs.Parts.{with_words}
+use Rattle.records.specs.Records.{bare_of}
+use Rattle.gateway.specs.Parts.{picked_of}
+use Rattle.gateway.proofs.OwnStep.{command_length, invoke_same}
 use Rattle.gateway.proofs.Follows.{handed_follows}
 use Rattle.gateway.proofs.calls.invoke.Goals as goal
 
-abbrev asks : Call → List ℕ → S.Act
-asks c s = S.invoke c.word s
-
-abbrev put : List ℕ → Record → Record
-put v r = with_words r v
-
 pub returns : goal.returns
 returns c =
-    handed_follows asks (λ x s. refl) (λ x s. refl) put (λ x s v. refl) c.args.rs.now c.args.c c.args.bytes.now c.pick-p.result
-    c.pick-p.new.rs c.do_invoke-m.result c.command_of-v.result c.settle-t.result c.settle-t.new.rs c.put_words.result c.put_words.new.rs
-    c.pick-p.ensures c.do_invoke-m.ensures c.command_of-v.ensures c.settle-t.ensures c.put_words.ensures
+    let x = c.handing.ensures in
+    let e = bare_of (picked_of c.args.rs.now c.args.c).stored in
+    let bytes = c.args.bytes.now in
+    let command = command_data c.args.c.word bytes in
+    handed_follows c.args.rs.now c.args.c (S.invoke c.args.c.word bytes) refl refl _
+    (λ s k. let told : s ≡ plain_step (invoke_with e (4 + length bytes) no_bytes) = search rules in
+    told ∙ ap (λ (n : ℕ). plain_step (invoke_with e n no_bytes)) (command_length c.args.c.word bytes)
+    ∙ invoke_same e (length command) no_bytes (padded_of command)) _
+    (λ r r' k. search rules) x.0 x.1 _ _ x.2 x.3

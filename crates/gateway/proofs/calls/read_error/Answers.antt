@@ -1,13 +1,9 @@
-use Rattle.std.proofs.Common.{refl}
+use Rattle.std.proofs.Common.{refl, rules}
 use Rattle.steps.specs.Steps as S
-use Rattle.gateway.specs.declared.Call.{Call}
 use Rattle.gateway.proofs.Follows.{plain_follows}
 use Rattle.gateway.proofs.calls.read_error.Goals as goal
 
-abbrev asks : Call → S.Act
-asks c = S.read_error
-
 pub returns : goal.returns
 returns c =
-    plain_follows asks (λ x. refl) (λ x. refl) c.args.rs.now c.args.c c.pick-p.result c.pick-p.new.rs c.do_read_error-m.result
-    c.settle.result c.settle.new.rs c.pick-p.ensures c.do_read_error-m.ensures c.settle.ensures
+    let x = c.plain.ensures in
+    plain_follows c.args.rs.now c.args.c S.read_error refl refl _ (λ s k. search rules) x.0 x.1 _ _ x.2 x.3

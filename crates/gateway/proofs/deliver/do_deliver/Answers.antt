@@ -1,34 +1,33 @@
--- `gateway::deliver::do_deliver` meets its contract: an empty cycle, numbers 4 to 7, or the frame's own step.
-use borrow.Author.Tests.{eq-eqb, ne_eqb}
-use Prim.Native.Nat.{ℕ}
-use mathlib.Core.Bool.{false, ◌&&◌, true≢false, false≢true}
-use mathlib.Core.List.{List}
-use mathlib.Core.Path.{◌≡◌, refl, sym, ap, subst, ◌∙◌}
-use lib.Dec.{eqb, ltb}
-use lib.ListN.{length}
-use lib.Seq.{slice}
-use Rattle.frame.specs.declared.Command.TheVariants as K
-use Rattle.frame.specs.declared.Reading.{Reading}
-use Rattle.frame.specs.declared.Reading.TheVariants.{Frame, Refused}
+-- Numbers 4 to 7, or the frame's own step.
+use Rattle.std.proofs.Common.{◌≡◌, refl, sym, ap, subst, ◌∙◌, ℕ, List, ltb, ◌≤◌, eqb, Bool, ◌&&◌, true, false, length, rules}
+use Rattle.std.specs.Prelude.{Err, Ok}
+use Rattle.std.proofs.lemmas.Bool.{false≢true}
+use Rattle.std.specs.Result.{result_and}
+use Rattle.std.proofs.Math.Seq.{slice}
+use borrow.Author.Tests.{tests}
+use denote.Enum.Bare.{sameb}
+use Rattle.frame.specs.contracts.Command.{the_type}
+use Rattle.frame.specs.declared.Command.{Command}
 use Rattle.frame.specs.Control.{is}
-use Rattle.frame.specs.Reading.{reading_of}
+use Rattle.frame.specs.declared.Command.TheVariants as K
+use Rattle.frame.specs.declared.Frame.{Frame}
+use Rattle.frame.specs.Reading.{Reading, reading_of}
 use Rattle.frame.proofs.ReadBack.{round_trip}
-use Rattle.endpoint.specs.declared.Reason.{Reason}
 use Rattle.endpoint.specs.declared.Reason.TheVariants as R
-use Rattle.endpoint.specs.declared.Answer.TheVariants.{Dropped}
-use Rattle.endpoint.specs.Endpoint.{bare}
-use Rattle.endpoint.specs.Answers.{is_done}
-use Rattle.steps.specs.Deliveries.{deliver_of}
+use Rattle.endpoint.specs.declared.Refusal.TheVariants.{Dropped}
+use Rattle.endpoint.specs.Answers.{Answer, is_done}
 use Rattle.steps.specs.Says.{with_room, StepSays}
+use Rattle.steps.specs.Deliveries.{deliver_of}
+use Rattle.endpoint.specs.Endpoint.{bare}
+use Rattle.steps.specs.Values.{with_handed}
 use Rattle.gateway.specs.declared.Picked.{Picked}
-use Rattle.gateway.specs.declared.Handed.{Handed}
 use Rattle.gateway.specs.declared.Moved.{Moved}
 use Rattle.gateway.specs.Tables.{is_reading}
-use Rattle.gateway.specs.Calls.{is_short, reason_of}
-use Rattle.gateway.specs.Parts.{admitted, before, refused_move, acted_move, FrameMoves, DeliverMoves, frame_answer}
-use Rattle.gateway.specs.Parts.{with_held, frame_outcome, accepts_value}
+use Rattle.gateway.specs.Calls.{admit, is_short, reason_of}
+use Rattle.gateway.specs.Parts.{Handed, handed_of, refused_move, acted_move, FrameMoves, DeliverMoves, frame_answer, frame_outcome}
+use Rattle.gateway.specs.Parts.{accepts_value}
 use Rattle.gateway.proofs.BodyPart.{part}
-use Rattle.gateway.proofs.OwnStep.{not_done, refused_moves, acted_moves}
+use Rattle.gateway.proofs.OwnStep.{not_done, undone, refused_moves, acted_moves, given}
 use Rattle.gateway.proofs.deliver.do_deliver.Goals as goal
 
 -- bytes came, and were read
@@ -39,76 +38,88 @@ by_frame p w s out out' r m n q f = record {
   frame = λ h. subst (λ (x : Reading). FrameMoves p w s x out out' m) (sym q) f;
 }
 
-pub returns-then-bytes-eq0 : goal.returns-then-bytes-eq0
-returns-then-bytes-eq0 c =
-    let a = c.args in
-    record {
-      empty = λ h. record {
-        moves = c.refused.ensures ∙ ap (refused_move a.p) c.admitted.ensures;
-        output = refl;
-      };
-      frame = λ h. absurd (true≢false (sym (eq-eqb (length a.bytes.now) 0 c.if-bytes-eq0.true) ∙ h));
-    }
+-- what is refused is refused whatever comes after it
+and_then : (reading shorter short : Bool) (then : Answer)
+    → result_and (admit reading shorter short (Ok tt)) then ≡ admit reading shorter short then
+and_then false shorter short then = refl
+and_then true true short then = refl
+and_then true false true then = refl
+and_then true false false then = refl
 
-pub returns-then-not-is_done : goal.returns-then-not-is_done
-returns-then-not-is_done c =
-    let a = c.args in
-    let x = c.in-Frame in
-    let f = Frame x.fields x.start x.end in
-    by_frame a.p a.h a.bytes.now a.out.now a.out.now f c.refused-then-not-is_done.result
-    (ne_eqb (length a.bytes.now) 0 c.if-bytes-eq0.false) (sym c.in-Frame.ensures)
-    (refused_moves a.p a.out.now (frame_outcome a.p a.h a.bytes.now f)
-    (accepts_value a.p f (frame_outcome a.p a.h a.bytes.now f).answer)
-    (before a.p (is_short (length a.out.now)) R.Unknown) c.before-a.result c.refused-then-not-is_done.result
-    c.before-a.ensures (sym c.is_done.ensures ∙ c.if-not-is_done.true) c.refused-then-not-is_done.ensures)
+within : (s : List ℕ) (x : Frame) → reading_of s ≡ Ok x → (x.start ≤ x.end) × (x.end ≤ length s)
+within s x q = round_trip.within s _ _ _ q
 
-pub returns-in-Refused : goal.returns-in-Refused
-returns-in-Refused c =
-    let a = c.args in
-    let short = is_short (length a.out.now) in
-    let f = Refused c.in-Refused.fault in
-    let q = c.admitted-a.ensures
-    ∙ ap (λ (x : Reason). admitted a.p short (Dropped x)) c.reason_of.ensures in
-    by_frame a.p a.h a.bytes.now a.out.now a.out.now f c.refused-in-Refused.result
-    (ne_eqb (length a.bytes.now) 0 c.if-bytes-eq0.false) (sym c.in-Refused.ensures)
-    (refused_moves a.p a.out.now (frame_outcome a.p a.h a.bytes.now f) false
-    (frame_answer a.p short f) c.admitted-a.result c.refused-in-Refused.result q
-    (ap is_done q ∙ not_done (is_reading a.p.call.gateway a.p.call.clock)
-    (ltb a.p.room a.p.call.gateway.count) short (reason_of c.in-Refused.fault))
-    c.refused-in-Refused.ensures)
+-- `==` at commands is that of their codes
+same_refresh : (k : Command) → sameb the_type k K.Refresh ≡ is k K.Refresh
+same_refresh K.Connect = refl
+same_refresh K.ConfirmNetwork = refl
+same_refresh K.VerifyStation = refl
+same_refresh K.InvokeFunc = refl
+same_refresh K.Disconnect = refl
+same_refresh K.ReadErrorInfo = refl
+same_refresh K.WriteErrorInfo = refl
+same_refresh K.RefreshReady = refl
+same_refresh K.RefreshMo = refl
+same_refresh K.RefreshGo = refl
+same_refresh K.Refresh = refl
 
-pub returns-else-not-is_done : goal.returns-else-not-is_done
-returns-else-not-is_done c =
-    let a = c.args in
-    let x = c.in-Frame in
-    let f = Frame x.fields x.start x.end in
-    let q = sym c.in-Frame.ensures in
-    let w = round_trip.within a.bytes.now _ _ _ q in
-    let body = slice x.start x.end a.bytes.now in
-    let k = is x.fields.command K.Refresh in
-    let same : (c.is_done-in-Frame.result && c.is.result) ≡ (is_done c.deliver-step.result.answer && k) =
-    (λ j. c.is_done-in-Frame.ensures j && c.is.ensures j) in
-    by_frame a.p a.h a.bytes.now a.out.now _ f c.acted.result
-    (ne_eqb (length a.bytes.now) 0 c.if-bytes-eq0.false) q
-    (acted_moves a.p a.out.now (λ z. deliver_of (with_held a.h z) a.p.call.clock x.fields body) (λ z. is_done z && k) R.Unknown
-    c.before-a.result c.core_of.result _ c.deliver-step.result c.acted.result c.before-a.ensures
-    (sym c.is_done.ensures ∙ c.if-not-is_done.false) c.core_of.ensures
-    (subst (λ (z : List ℕ). StepSays (with_room (length a.out.now) (bare c.core_of.result)
-    (deliver_of (with_held a.h (bare c.core_of.result)) a.p.call.clock x.fields z)) a.out.now c.deliver-step.new.out c.deliver-step.result)
-    (sym (part a.bytes.now _ _ w.0 w.1)) c.deliver-step.ensures)
-    (c.acted.ensures ∙ ap (acted_move a.p c.deliver-step.result) same))
+pub returns-in-Err : goal.returns-in-Err
+returns-in-Err c =
+    let p = c.args.p.now in
+    let w = handed_of c.args.record.now in
+    let s = c.args.bytes.now in
+    let out = c.args.out.now in
+    let short = is_short (length out) in
+    let f = Err c.in-Err.fault in
+    by_frame p w s out out f c.refused-in-Err.result (search (rules, tests)) (sym c.read_frame.ensures ∙ c.in-Err.is)
+    (refused_moves p out out (frame_answer p short f) (frame_outcome p w s f) false c.refused-in-Err.result
+    (not_done (is_reading p.call.gateway p.call.clock) (ltb p.room p.call.gateway.count) short (reason_of c.in-Err.fault))
+    (c.refused-in-Err.ensures ∙ ap (refused_move p) (c.and.ensures
+    ∙ (λ i. result_and (c.admitted-in-Err.ensures i) (Err (Dropped (c.reason_of.ensures i))))
+    ∙ and_then (is_reading p.call.gateway p.call.clock) (ltb p.room p.call.gateway.count) short
+    (Err (Dropped (reason_of c.in-Err.fault))))) refl)
 
-pub slice_bounds-deliver-start : goal.slice_bounds-deliver-start
-slice_bounds-deliver-start c =
-    let a = c.args in
-    (round_trip.within a.bytes.now _ _ _ (sym c.in-Frame.ensures)).0
+pub returns-in-Ok-before : goal.returns-in-Ok-before
+returns-in-Ok-before c =
+    let refreshes : c.eq-refreshes.result ≡ is c.in-Ok.frame.fields.command K.Refresh =
+    c.eq-refreshes.ensures ∙ same_refresh c.in-Ok.frame.fields.command in
+    let p = c.args.p.now in
+    let r = c.args.record.now in
+    let s = c.args.bytes.now in
+    let out = c.args.out.now in
+    let out' = c.deliver-step.new.out in
+    let x = c.in-Ok.frame in
+    let q : reading_of s ≡ Ok x = sym c.read_frame.ensures ∙ c.in-Ok.is in
+    let w = within s x q in
+    let refresh = is x.fields.command K.Refresh in
+    let step = c.deliver-step.result in
+    by_frame p (handed_of r) s out out' (Ok x) c.acted.result (search (rules, tests)) q
+    (acted_moves p out out' R.Unknown (frame_outcome p (handed_of r) s (Ok x)) (λ a. is_done a && refresh) step c.acted.result
+    (ap is_done (sym c.before-in-Ok.ensures ∙ c.in-Ok-before.is))
+    (given p out out' r (λ e. deliver_of e p.call.clock x.fields (slice x.start x.end s)) c.core.result _ _ step c.core.ensures
+    c.held.ensures (subst (λ (z : List ℕ). StepSays (with_room (length out) (bare c.core.result)
+    (deliver_of (with_handed c.held.result.words.now c.held.result.errorinfo.now (bare c.core.result)) p.call.clock x.fields z))
+    out out' step) (sym (part s x.start x.end w.0 w.1)) c.deliver-step.ensures))
+    (c.acted.ensures ∙ ap (λ (b : Bool). acted_move p step (is_done step.answer && b)) refreshes))
 
-pub slice_bounds-deliver-end-in-Frame-2 : goal.slice_bounds-deliver-end-in-Frame-2
-slice_bounds-deliver-end-in-Frame-2 c =
-    let a = c.args in
-    (round_trip.within a.bytes.now _ _ _ (sym c.in-Frame.ensures)).1
+pub returns-in_default : goal.returns-in_default
+returns-in_default c =
+    let p = c.args.p.now in
+    let w = handed_of c.args.record.now in
+    let s = c.args.bytes.now in
+    let out = c.args.out.now in
+    let f = Ok c.in-Ok.frame in
+    by_frame p w s out out f c.refused-in_default.result (search (rules, tests)) (sym c.read_frame.ensures ∙ c.in-Ok.is)
+    (refused_moves p out out (frame_answer p (is_short (length out)) f) (frame_outcome p w s f)
+    (accepts_value p f (frame_outcome p w s f).answer) c.refused-in_default.result
+    (ap is_done (sym c.before-in-Ok.ensures) ∙ undone c.before-in-Ok.result c.in_default.not-Ok)
+    (c.refused-in_default.ensures ∙ ap (refused_move p) c.before-in-Ok.ensures) refl)
 
-pub slice_bounds-deliver-count : goal.slice_bounds-deliver-count
-slice_bounds-deliver-count c =
-    let a = c.args in
-    (round_trip.within a.bytes.now _ _ _ (sym c.in-Frame.ensures)).0
+pub slice_bounds-body-count : goal.slice_bounds-body-count
+slice_bounds-body-count c = (within c.args.bytes.now c.in-Ok.frame (sym c.read_frame.ensures ∙ c.in-Ok.is)).0
+
+pub slice_bounds-body-start : goal.slice_bounds-body-start
+slice_bounds-body-start c = (within c.args.bytes.now c.in-Ok.frame (sym c.read_frame.ensures ∙ c.in-Ok.is)).0
+
+pub slice_bounds-body-end : goal.slice_bounds-body-end
+slice_bounds-body-end c = (within c.args.bytes.now c.in-Ok.frame (sym c.read_frame.ensures ∙ c.in-Ok.is)).1

@@ -1,6 +1,7 @@
--- `steps::deliver::take_request` meets its contract: refused, S-Disconnect, which writes nothing, or the reply.
+-- `steps::deliver::take_request` meets its contract: dropped, S-Disconnect, which writes nothing, or the reply.
+use Rattle.std.proofs.Common.{rules}
 use lib.ListN.{length}
-use mathlib.Core.Bool.{Bool, true, false, ◌||◌, ◌&&◌, cond}
+use mathlib.Core.Bool.{Bool, true, false, ◌||◌, ◌&&◌, not, cond}
 use mathlib.Core.List.{List}
 use mathlib.Core.Path.{◌≡◌, sym, ap, ◌∙◌}
 use Prim.Native.Nat.{ℕ}
@@ -8,7 +9,7 @@ use Rattle.frame.specs.declared.Command.TheVariants as K
 use Rattle.frame.specs.declared.Fields.{Fields}
 use Rattle.frame.specs.Control.{is}
 use Rattle.errors.specs.Reading.{more_follows}
-use Rattle.endpoint.specs.declared.Answer.{Answer}
+use Rattle.endpoint.specs.Answers.{Answer}
 use Rattle.endpoint.specs.declared.Core.{Core}
 use Rattle.endpoint.specs.Endpoint.{Endpoint, bare, core_of}
 use Rattle.endpoint.specs.Answers.{first_of, is_done, is_dropped, is_ended, left_by}
@@ -20,27 +21,25 @@ use Rattle.steps.specs.Says.{stepped_of}
 use Rattle.steps.specs.Values.{with_handed}
 use Rattle.steps.proofs.Firsts.{request_width}
 use Rattle.steps.proofs.Handed.{left_core}
-use Rattle.steps.proofs.Left.{left_dropped, left_answered}
+use Rattle.steps.proofs.Left.{left_dropped, left_answered, is_ok_done, ends}
 use Rattle.steps.proofs.Outcomes.{quiet_step, loud_step}
 use Rattle.steps.proofs.Whole.{whole, reply_writable}
+use Rattle.steps.proofs.deliver.take_request.Goals.{in-Ok, in-Err-Ended, then-done, else-done}
 use Rattle.steps.proofs.deliver.take_request.Goals as goal
 
 -- what a request with this answer comes to
+abbrev leaves : Endpoint → ℕ → Fields → List ℕ → Answer → Endpoint
+leaves e t f body a = cond (is_done a) (taken_of e t f (more_follows body)) (ended_by e f.timestamp)
+
 module _ (e : Endpoint) (t : ℕ) (f : Fields) (body : List ℕ) (a : Answer) (q : a ≡ first_of (request_faults e t f body)) where
-  abbrev ends : Endpoint
-  ends = ended_by e f.timestamp
+  abbrev over : Endpoint
+  over = ended_by e f.timestamp
 
   abbrev next : Endpoint
   next = taken_of e t f (more_follows body)
 
-  abbrev leaves : Endpoint
-  leaves = cond (is_done a) next ends
-
-  by : take_request e t f body ≡ outcome a (left_by a e ends next) (replied_of e f body a)
-  by = ap (λ (x : Answer). outcome x (left_by x e ends next) (replied_of e f body x)) (sym q)
-
-  left_is : {done : Bool} {x : Core} → x ≡ core_of (cond done next ends) → done ≡ is_done a → x ≡ core_of leaves
-  left_is p h = p ∙ ap (λ (b : Bool). core_of (cond b next ends)) h
+  by : take_request e t f body ≡ outcome a (left_by a e over next) (replied_of e f body a)
+  by = ap (λ (x : Answer). outcome x (left_by x e over next) (replied_of e f body x)) (sym q)
 
   abbrev reply : Bool → Bool → Written
   reply dropped disconnect =
@@ -50,60 +49,88 @@ module _ (e : Endpoint) (t : ℕ) (f : Fields) (body : List ℕ) (a : Answer) (q
 
   dropped-is : is_dropped a ≡ true → take_request e t f body ≡ outcome a e nothing
   dropped-is h =
-      by ∙ (λ i. outcome a (left_dropped e ends next a h i) (reply (h i) (is f.command K.Disconnect)))
+      by ∙ (λ i. outcome a (left_dropped e over next a h i) (reply (h i) (is f.command K.Disconnect)))
 
   answered-is : (b : Bool) → is_dropped a ≡ false → is f.command K.Disconnect ≡ b
-      → take_request e t f body ≡ outcome a leaves (reply false b)
-  answered-is b h k = by ∙ (λ i. outcome a (left_answered e ends next a h i) (reply (h i) (k i)))
+      → take_request e t f body ≡ outcome a (leaves e t f body a) (reply false b)
+  answered-is b h k = by ∙ (λ i. outcome a (left_answered e over next a h i) (reply (h i) (k i)))
 
-pub returns-then-is_dropped : goal.returns-then-is_dropped
-returns-then-is_dropped c =
+-- what an answered request leaves, whatever its user handed over
+left-is : (e : Endpoint) (w x : List ℕ) (t : ℕ) (f : Fields) (body : List ℕ) (a : Answer) (z : Core) (done : Bool)
+    → z ≡ core_of (cond done (taken_of e t f (more_follows body)) (ended_by e f.timestamp)) → is_done a ≡ done
+    → z ≡ core_of (leaves (with_handed w x e) t f body a)
+left-is e w x t f body a z done p h =
+    p ∙ left_core e w x t f (more_follows body) done
+    ∙ ap (λ (d : Bool). core_of (cond d (taken_of (with_handed w x e) t f (more_follows body)) (ended_by (with_handed w x e) f.timestamp)))
+    (sym h)
+
+pub returns-in-Err-Dropped : goal.returns-in-Err-Dropped
+returns-in-Err-Dropped c =
     let a = c.args in
-    let e = with_handed a.words.now a.errorinfo.now (bare a.e) in
+    let e = with_handed a.handed.words.now a.handed.errorinfo.now (bare a.e) in
     let r = c.request_answer-answer.result in
     quiet_step a.out.now (take_request e a.clock a.f a.body.now) r e
-    (dropped-is e a.clock a.f a.body.now r c.request_answer-answer.ensures
-    (sym c.is_dropped.ensures ∙ c.if-is_dropped.true)) c.stepped.ensures
+    (dropped-is e a.clock a.f a.body.now r c.request_answer-answer.ensures (search rules)) c.plain.ensures
 
-pub returns-then-is : goal.returns-then-is
-returns-then-is c =
+pub returns-then-eq : goal.returns-then-eq
+returns-then-eq c =
     let a = c.args in
-    let e = with_handed a.words.now a.errorinfo.now (bare a.e) in
+    let w = a.handed.words.now in
+    let y = a.handed.errorinfo.now in
+    let e = with_handed w y (bare a.e) in
     let x = a.body.now in
     let r = c.request_answer-answer.result in
-    let kept = sym c.is_dropped.ensures ∙ c.if-is_dropped.false in
-    let next = leaves e a.clock a.f x r c.request_answer-answer.ensures in
-    let left = rw c.more_follows.ensures at c.left-next.ensures in
+    let kept : is_dropped r ≡ false = elim c.match-answer.branch [
+      | in-Ok v ↦ search rules
+      | in-Err-Ended v ↦ search rules
+    ] in
+    let next = leaves e a.clock a.f x r in
+    let left : c.match-answer.core ≡ core_of next = elim c.match-answer.branch [
+      | in-Ok v ↦ left-is (bare a.e) w y a.clock a.f x r c.match-answer.core true
+          (v.core-is ∙ rw v.more_follows.ensures at v.taken-core.ensures) (search rules)
+      | in-Err-Ended v ↦ left-is (bare a.e) w y a.clock a.f x r c.match-answer.core false (v.core-is ∙ v.ended_by-core.ensures)
+          (search rules)
+    ] in
     quiet_step a.out.now (take_request e a.clock a.f x) r next
-    (answered-is e a.clock a.f x r c.request_answer-answer.ensures true kept
-    (sym c.is.ensures ∙ c.if-is.true))
-    (c.stepped-then-is.ensures ∙ ap (λ (z : Core). stepped_of r z 0)
-    (left_is e a.clock a.f x r c.request_answer-answer.ensures
-    (left ∙ left_core (bare a.e) a.words.now a.errorinfo.now a.clock a.f (more_follows x)
-    c.is_done-done.result) c.is_done-done.ensures))
+    (answered-is e a.clock a.f x r c.request_answer-answer.ensures true kept (search rules))
+    (c.plain-then-eq.ensures ∙ ap (λ (z : Core). stepped_of r z 0) left)
 
 pub returns : goal.returns
 returns c =
     let a = c.args in
-    let e = with_handed a.words.now a.errorinfo.now (bare a.e) in
+    let w = a.handed.words.now in
+    let y = a.handed.errorinfo.now in
+    let e = with_handed w y (bare a.e) in
     let x = a.body.now in
+    let k = a.f.command in
     let r = c.request_answer-answer.result in
-    let y = reply_data e a.f.command (is_done r) x in
-    let kept = sym c.is_dropped.ensures ∙ c.if-is_dropped.false in
-    let other = sym c.is.ensures ∙ c.if-is.false in
-    let next = leaves e a.clock a.f x r c.request_answer-answer.ensures in
-    let left = rw c.more_follows.ensures at c.left-next.ensures in
-    let g = reply_fields e a.f (is_done r && is_busy e a.f.command (length x)) (is_ended r) in
-    let fields : c.reply_fields-reply.result ≡ g =
-    c.reply_fields-reply.ensures
-    ∙ (λ n. reply_fields e a.f (c.is_done-done.ensures n && c.is_busy.ensures n) (c.is_ended.ensures n)) in
+    let kept : is_dropped r ≡ false = elim c.match-answer.branch [
+      | in-Ok v ↦ search rules
+      | in-Err-Ended v ↦ search rules
+    ] in
+    let next = leaves e a.clock a.f x r in
+    let left : c.match-answer.core ≡ core_of next = elim c.match-answer.branch [
+      | in-Ok v ↦ left-is (bare a.e) w y a.clock a.f x r c.match-answer.core true
+          (v.core-is ∙ rw v.more_follows.ensures at v.taken-core.ensures) (search rules)
+      | in-Err-Ended v ↦ left-is (bare a.e) w y a.clock a.f x r c.match-answer.core false (v.core-is ∙ v.ended_by-core.ensures)
+          (search rules)
+    ] in
+    let other : is k K.Disconnect ≡ false = search rules in
+    let done : c.is_ok-done.result ≡ is_done r = c.is_ok-done.ensures.value ∙ is_ok_done r in
+    let b = is_busy e k (length x) in
+    let busy : c.if-done.busy ≡ (is_done r && b) = elim c.if-done.branch [
+      | then-done v ↦ v.busy-is ∙ v.is_busy-busy.ensures ∙ sym (ap (λ (d : Bool). d && b) (sym done ∙ v.if-done.true))
+      | else-done v ↦ v.busy-is ∙ v.if-done.false ∙ sym (ap (λ (d : Bool). d && b) (sym done ∙ v.if-done.false))
+    ] in
+    let g = reply_fields e a.f (is_done r && b) (is_ended r) in
+    let fields : c.reply_fields.result ≡ g =
+    c.reply_fields.ensures
+    ∙ (λ n. reply_fields e a.f (busy n) ((ap not done ∙ ends r kept) n)) in
+    let d = reply_data e k (is_done r) x in
     let n = request_width e a.clock a.f x (rw (← c.request_answer-answer.ensures) kept) in
-    loud_step a.out.now (take_request e a.clock a.f x) r next g y
+    loud_step a.out.now (take_request e a.clock a.f x) r next g d
     (answered-is e a.clock a.f x r c.request_answer-answer.ensures false kept other)
-    (whole g y a.out.now c.requires.0
+    (whole g d a.out.now c.requires.0
     (reply_writable e a.clock a.f (is_done r) (is_ended r) x c.requires.1 other n)
-    (rw (c.head_of.ensures, fields, c.is_done-done.ensures) at c.write_reply-count.ensures))
-    (c.stepped-2.ensures ∙ ap (λ (z : Core). stepped_of r z c.write_reply-count.result)
-    (left_is e a.clock a.f x r c.request_answer-answer.ensures
-    (left ∙ left_core (bare a.e) a.words.now a.errorinfo.now a.clock a.f (more_follows x)
-    c.is_done-done.result) c.is_done-done.ensures))
+    (rw (c.head_of-head.ensures, fields, done) at c.write_reply-count.ensures))
+    (ap (λ (z : Core). stepped_of r z c.write_reply-count.result) left)

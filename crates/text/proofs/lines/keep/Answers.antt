@@ -1,23 +1,22 @@
 -- `text::lines::keep` meets its contract.
-use Rattle.std.proofs.Common.{◌≡◌, ℕ, ◌-◌, length, take, sym, ap, arith, length-take-le, take_all}
-use Rattle.text.proofs.Runs.{puts_none, puts_as}
+use Rattle.std.proofs.Common.{◌≡◌, ℕ, ◌-◌, min, List, length, take, sym, ap, ◌∙◌, arith, length-take}
+use Rattle.std.proofs.lemmas.List.{take_min}
+use Rattle.words.specs.Output.{put}
+use Rattle.text.proofs.Pieces.{put_part, put_none}
 use Rattle.text.proofs.lines.keep.Goals as goal
 
-pub returns-then-most-n : goal.returns-then-most-n
-returns-then-most-n c =
-    let a = c.args in
-    let z : length a.line.now - a.n ≡ 0 = omega arith in
-    puts_as puts_none (ap (λ (k : ℕ). take k a.bytes.now) (sym z))
+kept : (k m : ℕ) (s : List ℕ) → k ≡ min m (length s) → take k s ≡ take m s
+kept k m s e = ap (λ (n : ℕ). take n s) e ∙ take_min m s
 
-pub returns-then-bytes-most : goal.returns-then-bytes-most
-returns-then-bytes-most c =
+pub returns-then-count-gt0-clause-kept : goal.returns-then-count-gt0-clause-kept
+returns-then-count-gt0-clause-kept c =
     let a = c.args in
-    puts_as c.put_text.ensures (sym (take_all _ a.bytes.now c.if-bytes-most.true))
+    let m = length a.line.now - a.n in
+    let k = kept c.min-count.result m a.bytes.now (omega arith) in
+    put_part a.line.now a.n _ (c.copy_from_slice.ensures.after ∙ k) (omega (arith, length-take m a.bytes.now))
 
-pub slice_bounds-put_text-end : goal.slice_bounds-put_text-end
-slice_bounds-put_text-end c = sym (length-take-le _ c.args.bytes.now (omega arith))
-
-pub put_text-requires-2 : goal.put_text-requires-2
-put_text-requires-2 c =
+pub returns-else-count-gt0-clause-kept : goal.returns-else-count-gt0-clause-kept
+returns-else-count-gt0-clause-kept c =
     let a = c.args in
-    rw (length-take-le (length a.line.now - a.n) a.bytes.now (omega arith)) (omega arith)
+    let k = kept 0 (length a.line.now - a.n) a.bytes.now (omega arith) in
+    sym (ap (put a.line.now a.n) (sym k) ∙ put_none a.line.now a.n)

@@ -1,10 +1,7 @@
--- The loop of `text::parse::name_in`: what it keeps, and what counts down.
-use Rattle.std.proofs.Common.{◌≡◌, ◌-◌, length, drop}
-use Rattle.text.proofs.Names.{found}
+-- The loop of `text::parse::name_in`: the entries so far are not the word.
+use Rattle.std.proofs.Common.{◌≡◌, map, drop}
+use Rattle.text.specs.Calls.{name_in, entry_of}
 use Rattle.text.proofs.parse.name_in.Given as goal
 
-abbrev pub invariant-loop-i : goal.invariant-loop-i
-invariant-loop-i l = found l.word (drop l.i l.verbs) ≡ found l.word l.verbs
-
-abbrev pub decreases-loop-i : goal.decreases-loop-i
-decreases-loop-i l = length l.verbs - l.i
+abbrev pub invariant-loop-verb : goal.invariant-loop-verb
+invariant-loop-verb l = name_in (map entry_of (drop l.verb-index l.verbs)) l.word ≡ name_in (map entry_of l.verbs) l.word
