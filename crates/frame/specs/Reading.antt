@@ -9,7 +9,7 @@ use Rattle.frame.specs.declared.Fields.{Fields}
 use Rattle.frame.specs.declared.Fault.{Fault}
 use Rattle.frame.specs.declared.Fault.TheVariants.{Length, Copies, CheckWord, Form}
 use Rattle.frame.specs.declared.Frame.{Frame}
-use Rattle.std.specs.declared.ops.Range.{Range}
+use Rattle.frame.specs.declared.Span.{Span}
 use Rattle.frame.specs.Control.{bit, command_of, subconnection_of, control_of, has_form}
 
 -- 56, 64, .. 248
@@ -70,7 +70,7 @@ abbrev pub connection_in : List ℕ → ℕ
 connection_in s = word_at s 4
 
 -- in bytes of no frame's length it is empty
-abbrev pub span_of : ℕ → Range ℕ
+abbrev pub span_of : ℕ → Span
 span_of n = cond (is_frame_length n) (record { start = 20; end = n / 2 - 4 }) (record { start = 0; end = 0 })
 
 abbrev pub body_in : List ℕ → List ℕ

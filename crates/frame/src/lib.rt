@@ -77,6 +77,13 @@ pub struct Head {
     pub carry: u32,
 }
 
+// Where a part of some bytes lies. (No Range, which is not Copy: who was told a place may look at it twice.)
+#[derive(Clone, Copy, Debug, PartialEq, Eq)]
+pub struct Span {
+    pub start: usize,
+    pub end: usize,
+}
+
 // Why bytes are no frame. Document 01's number and trade word stand beside each.
 #[derive(Clone, Copy, Debug, PartialEq, Eq)]
 pub enum Fault {

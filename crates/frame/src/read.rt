@@ -5,8 +5,7 @@ ghost use Rattle.frame.specs.Reading.{is_frame_length, has_check_word, fields_of
 ghost use Rattle.frame.specs.Reading.{reading_of_copies, reading_of, fault_number, number_of};
 ghost use Rattle.frame.specs.Reading.{connection_in, span_of};
 
-use super::{Command, Fault, Fields, Frame, Head, LONGEST_FRAME};
-use std::ops::Range;
+use super::{Command, Fault, Fields, Frame, Head, LONGEST_FRAME, Span};
 use words::{same, word_at};
 
 // 56, 64, .. 248. (Its twin is write::is_body_length: one function for both would be a line too, and take three numbers.)
@@ -113,13 +112,16 @@ pub fn connection_in(bytes: &[u8]) -> u32
 }
 
 // Where the body lies in n bytes, should they be a frame. (No Option: `span_of` is empty where they cannot be.)
-pub fn body_span(n: usize) -> Range<usize>
+pub fn body_span(n: usize) -> Span
     ensures { (result ≡ span_of n) × (result.start ≤ result.end) × (result.end ≤ n) }
 {
     if is_frame_length(n) {
-        20..n / 2 - 4
+        Span {
+            start: 20,
+            end: n / 2 - 4,
+        }
     } else {
-        0..0
+        Span { start: 0, end: 0 }
     }
 }
 

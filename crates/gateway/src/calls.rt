@@ -24,9 +24,9 @@ use steps::{Stepped, lifecycle, queue, station};
 // ---- what the calls have in common: refused before the connection's own step, or that step
 
 // A call that is lent no output. `hands`: it hands words or an error record over.
-fn act<F: FnOnce(Core) -> Stepped>(p: &Picked, hands: bool, step: F) -> Moved
+fn act<F: FnOnce(Core) -> Stepped>(p: Picked, hands: bool, step: F) -> Moved
     requires { F.IsAlwaysCallable step }
-    ensures { ActMoves p.now (λ s. F.post step (core_of (bare_of p.now.stored)) s) hands result }
+    ensures { ActMoves p (λ s. F.post step (core_of (bare_of p.stored)) s) hands result }
 {
     match p.before(false, Reason::Entry) {
         Ok(()) => p.acted(step(p.core()), hands),
@@ -40,7 +40,7 @@ fn plain<F: FnOnce(Core) -> Stepped>(rs: &mut [Record], c: Call, step: F) -> Cal
         (λ s. F.post step (core_of (bare_of (picked_of rs.old c).stored)) s) false m
         × (result ≡ m.told) × (rs.new ≡ settled rs.old m) }
 {
-    let m = act(&pick(rs, c), false, step);
+    let m = act(pick(rs, c), false, step);
     settle(rs, &m)
 }
 
@@ -58,7 +58,7 @@ fn handing<F: FnOnce(Core) -> Stepped, G: FnOnce(&mut Record)>(
         × (result ≡ m.told)
         × PutBy (λ r r'. FnOnceReturnsAtMut G.FnOnce keep r tt r') m.keep (settled rs.old m) rs.new }
 {
-    let m = act(&pick(rs, c), true, step);
+    let m = act(pick(rs, c), true, step);
     let told = settle(rs, &m);
     put(rs, m.keep, keep);
     told
@@ -66,9 +66,9 @@ fn handing<F: FnOnce(Core) -> Stepped, G: FnOnce(&mut Record)>(
 
 // A call that is lent an output. Each makes its step itself: handed in as a closure, `search` stops at its limit at the
 // step of send and of deliver.
-fn stopping(p: &Picked, out: &mut [u8]) -> Moved
-    ensures { StepMoves p.now (before p.now (is_short (length out.old)) R.Entry)
-        (stop_of (bare_of p.now.stored) p.now.call.clock) false out.old out.new result }
+fn stopping(p: Picked, out: &mut [u8]) -> Moved
+    ensures { StepMoves p (before p (is_short (length out.old)) R.Entry)
+        (stop_of (bare_of p.stored) p.call.clock) false out.old out.new result }
 {
     match p.before(out.len() < LONGEST_FRAME, Reason::Entry) {
         Ok(()) => p.acted(lifecycle::stop(p.core(), p.call.clock, out), false),
@@ -77,9 +77,9 @@ fn stopping(p: &Picked, out: &mut [u8]) -> Moved
 }
 
 // Its user has handed over what the record holds.
-fn sending(p: &Picked, record: &Record, value: &[u8], out: &mut [u8]) -> Moved
-    ensures { StepMoves p.now (before p.now (is_short (length out.old)) R.Entry)
-        (send_of (with_held (handed_of record.now) (bare_of p.now.stored)) p.now.call.clock value.now) false
+fn sending(p: Picked, record: &Record, value: &[u8], out: &mut [u8]) -> Moved
+    ensures { StepMoves p (before p (is_short (length out.old)) R.Entry)
+        (send_of (with_held (handed_of record.now) (bare_of p.stored)) p.call.clock value.now) false
         out.old out.new result }
 {
     match p.before(out.len() < LONGEST_FRAME, Reason::Entry) {
@@ -92,8 +92,8 @@ fn sending(p: &Picked, record: &Record, value: &[u8], out: &mut [u8]) -> Moved
 }
 
 // What the clock step leaves is shown.
-fn showing(p: &Picked, value: &[u8], out: &mut [u8]) -> Moved
-    ensures { ShowMoves p.now value.now out.old out.new result }
+fn showing(p: Picked, value: &[u8], out: &mut [u8]) -> Moved
+    ensures { ShowMoves p value.now out.old out.new result }
 {
     match p.admitted_entry(out.len() < LONGEST_FRAME, Reason::Entry) {
         Ok(()) => {
@@ -207,7 +207,7 @@ pub fn stop(rs: &mut [Record], c: Call, out: &mut [u8]) -> Called
     ensures { OutputSays (stop_in (lent c.gateway rs.old) c.clock (length out.old) c.entry)
         rs.new out.old out.new result }
 {
-    let m = stopping(&pick(rs, c), out);
+    let m = stopping(pick(rs, c), out);
     settle(rs, &m)
 }
 
@@ -216,7 +216,7 @@ pub fn send(rs: &mut [Record], c: Call, value: &[u8], out: &mut [u8]) -> Called
     ensures { OutputSays (send_in (lent c.gateway rs.old) c.clock (length out.old) c.entry
         value.now) rs.new out.old out.new result }
 {
-    let m = sending(&pick(rs, c), record_at(rs, c.entry), value, out);
+    let m = sending(pick(rs, c), record_at(rs, c.entry), value, out);
     settle(rs, &m)
 }
 
@@ -225,6 +225,6 @@ pub fn show(rs: &mut [Record], c: Call, out: &mut [u8]) -> Called
     ensures { OutputSays (show_in (lent c.gateway rs.old) c.clock (length out.old) c.entry)
         rs.new out.old out.new result }
 {
-    let m = showing(&pick(rs, c), &record_at(rs, c.entry).value, out);
+    let m = showing(pick(rs, c), &record_at(rs, c.entry).value, out);
     settle(rs, &m)
 }

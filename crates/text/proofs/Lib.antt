@@ -5,3 +5,4 @@ pub mod Filled
 pub mod Limits
 pub mod NumbersBack
 pub mod BytesBack
+pub mod Every

@@ -47,6 +47,13 @@ follow {m} {n} {s} {t} {a} {b} {c} p q h = record {
 }
 
 -- ---- digits
+pub length_last : (w n : ℕ) → length (last_digits w n) ≡ w
+unfolding last_digits
+length_last zero n = refl
+length_last (suc w) n =
+    let e = length_last w (n / 10) in
+    length-append (last_digits w (n / 10)) _ ∙ omega (arith, e)
+
 pub last_none : {a : Writer} (w n : ℕ) → w ≤ 0 → Puts w (last_digits w n) a a
 unfolding last_digits
 last_none zero n h = nothing

@@ -153,9 +153,19 @@ pub fn put_wrong(out: &mut [u8], n: u64) -> usize
     line.at
 }
 
-// Whether all bytes from `from` on are as before the call. (bytes and from stay two: the clause has both.)
+// What follows the first n bytes.
+fn past(s: &[u8], n: usize) -> &[u8]
+    ensures { result.now ≡ drop n s.now }
+{
+    &s[n.min(s.len())..]
+}
+
+// Whether all bytes from `from` on are as before the call. (By fold, as hex's are_digits. bytes and from stay two: the clause
+// has both.)
 pub fn is_clean(bytes: &[u8], from: usize) -> bool
     ensures { result ≡ list_all is_fill (drop from bytes.now) }
 {
-    bytes.iter().skip(from).all(|b| *b == FILL)
+    past(bytes, from)
+        .iter()
+        .fold(true, |clean, b| clean & (*b == FILL))
 }

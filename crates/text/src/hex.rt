@@ -11,10 +11,12 @@ fn is_hex_digit(b: u8) -> bool
     matches!(b, b'0'..=b'9' | b'a'..=b'f')
 }
 
+// (By fold: `all` leaves at the first byte that is none, so that no step takes several; a line of 4,096 bytes took eleven
+// times as long.)
 fn are_digits(s: &[u8]) -> bool
     ensures { result ≡ list_all is_hex_digit s.now }
 {
-    s.iter().all(|b| is_hex_digit(*b))
+    s.iter().fold(true, |are, b| are & is_hex_digit(*b))
 }
 
 // Whether a text is bytes: pairs of digits, or `-` for none.

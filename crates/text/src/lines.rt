@@ -7,6 +7,7 @@ ghost use Rattle.text.specs.Inputs.{lines_taken, Refills};
 use super::word::cut;
 use std::io;
 use std::io::Read;
+use words::part;
 
 // How far the input was read. (Two flags and no enum of states: `taken_of` and `refilled_of` have both.)
 #[derive(Clone, Copy, Debug, PartialEq, Eq)]
@@ -69,13 +70,14 @@ impl Input {
     }
 
     // The bytes of the buffer up to the next newline, behind those that the line has.
+    #[tactic(auto, unfolding(words::specs::Bytes::slice))]
     pub fn take_line(self, buffer: &[u8], line: &mut [u8]) -> Input
         ensures taken { result ≡ taken_of self (left_of self buffer.now) (length line.old) }
         ensures kept { line.new ≡ put line.old (current_of self).length
             (kept_of self (left_of self buffer.now) (length line.old)) }
     {
         let current = self.current();
-        let left = between(buffer, self.from, self.to);
+        let left = part(buffer, self.from, self.to);
         let (piece, rest) = cut(left, b'\n');
         let whole = rest.is_some();
         Input {
@@ -137,8 +139,8 @@ impl Lines {
     }
 }
 
-// The bytes behind the n that the line has, as many as it has room for, and how many these are. (Places, here and in the two
-// below: `kept_of` and `left_of` are by places.)
+// The bytes behind the n that the line has, as many as it has room for, and how many these are. (Places, here and below:
+// `kept_of` is by places.)
 fn keep(line: &mut [u8], n: usize, bytes: &[u8]) -> usize
     ensures kept { line.new ≡ put line.old n (take (length line.old - n) bytes.now) }
     ensures count { result ≡ length (take (length line.old - n) bytes.now) }
@@ -148,14 +150,6 @@ fn keep(line: &mut [u8], n: usize, bytes: &[u8]) -> usize
         line[n..n + count].copy_from_slice(&bytes[..count]);
     }
     count
-}
-
-// The bytes of the buffer from one place up to another, or as many as there are.
-fn between(buffer: &[u8], from: usize, to: usize) -> &[u8]
-    ensures { result.now ≡ drop from (take to buffer.now) }
-{
-    let read = front(buffer, to);
-    &read[from.min(read.len())..]
 }
 
 // The first n bytes, or as many as there are.

@@ -1,13 +1,17 @@
 // Words of a line, separated by one space; a line up to its newline.
-ghost use Rattle.std.specs.Prelude.{◌≡◌, ◌≤◌, ◌==◌, nat_lt, length, is_some, position, IfSome, IfNone, []};
+ghost use Rattle.std.specs.Prelude.{◌≡◌, ◌≤◌, ◌==◌, nat_lt, length, is_some, IfSome, IfNone, []};
 ghost use Rattle.std.specs.List.{before_first, after_first, position_or_len};
 ghost use Rattle.text.specs.Reading.{word_in, rest_of};
 
-// The place of the first such byte, where there is one. (Beside words' find, whose clause is of a place past the bytes.)
-fn find(s: &[u8], byte: u8) -> Option<usize>
-    ensures { result ≡ position (λ b. b == byte) s.now }
+use words::find;
+
+// The place of the first such byte, or past all of them.
+#[tactic(auto, using(words::proofs::Search::place_in_all))]
+fn place_of(s: &[u8], byte: u8) -> usize
+    ensures place { result ≡ position_or_len (λ b. b == byte) s.now }
+    ensures within { result ≤ length s.now }
 {
-    s.iter().position(|b| *b == byte)
+    find(s, 0, s.len(), byte)
 }
 
 // What stands before the first `at`, and what stands after it where there is one.
@@ -19,10 +23,8 @@ pub(crate) fn cut(s: &[u8], at: u8) -> (&[u8], Option<&[u8]>)
     ensures none_after { IfNone result.1 (after_first (λ b. b == at) s.now ≡ []) }
     ensures within { length result.0.now ≤ length s.now }
 {
-    match find(s, at) {
-        Some(e) => (&s[..e], Some(&s[e + 1..])),
-        None => (s, None),
-    }
+    let e = place_of(s, at);
+    (&s[..e], s.get(e + 1..))
 }
 
 // The bytes before the first space, and those after it.

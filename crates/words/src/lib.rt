@@ -1,7 +1,7 @@
 // Bytes in slices, and words of 32 bits in four of them, most significant byte first.
 #![tactic(auto)]
 
-ghost use Rattle.std.specs.Prelude.{◌≡◌, get_or, ◌+◌, ◌≤◌};
+ghost use Rattle.std.specs.Prelude.{◌≡◌, get_or, ◌+◌, ◌-◌, ◌≤◌, length};
 ghost use Rattle.words.specs.Bytes.{same, slice, index_of};
 ghost use Rattle.words.specs.Words.{word_of, word_at, word_bytes};
 ghost use Rattle.words.specs.Output.{put_whole, count_within};
@@ -62,12 +62,21 @@ pub fn copy(src: &[u8], dst: &mut [u8]) -> usize
     n
 }
 
+// What stands from one place up to another, or as much as there is.
+#[tactic(auto, unfolding(crate::specs::Bytes::slice))]
+pub fn part(s: &[u8], from: usize, to: usize) -> &[u8]
+    ensures bytes { result.now ≡ slice from to s.now }
+    ensures count { length result.now ≤ to - from }
+{
+    let front = &s[..to.min(s.len())];
+    &front[from.min(front.len())..]
+}
+
 // The place of the first b from `from` on and before `to`; where there is none, the place after them. (No Option: its clause
 // `place` speaks of that place.)
 pub fn find(s: &[u8], from: usize, to: usize, b: u8) -> usize
     ensures place { result ≡ from + index_of b (slice from to s.now) }
     ensures within { from ≤ to → result ≤ to }
 {
-    let part = s.iter().take(to).skip(from);
-    from + part.take_while(|x| **x != b).count()
+    from + part(s, from, to).iter().take_while(|x| **x != b).count()
 }

@@ -12,7 +12,7 @@ use Rattle.gateway.proofs.calls.sending.Goals as goal
 
 pub returns-in-Ok : goal.returns-in-Ok
 returns-in-Ok c =
-    let p = c.args.p.now in
+    let p = c.args.p in
     let r = c.args.record.now in
     let value = c.args.value.now in
     let out = c.args.out.now in
@@ -24,7 +24,7 @@ returns-in-Ok c =
 
 pub returns-in_default : goal.returns-in_default
 returns-in_default c =
-    let p = c.args.p.now in
+    let p = c.args.p in
     let out = c.args.out.now in
     refused_moves p out out (before p (is_short (length out)) R.Entry)
     (send_of (with_held (handed_of c.args.record.now) (bare_of p.stored)) p.call.clock c.args.value.now) false c.refused.result

@@ -20,7 +20,7 @@ step v s false = refl
 
 pub returns-in-Ok : goal.returns-in-Ok
 returns-in-Ok c =
-    let p = c.args.p.now in
+    let p = c.args.p in
     let v = c.args.value.now in
     let out = c.args.out.now in
     shown_moves p out c.show.new.out v c.show.result c.shown.result
@@ -32,7 +32,7 @@ returns-in-Ok c =
 
 pub returns-in_default : goal.returns-in_default
 returns-in_default c =
-    let p = c.args.p.now in
+    let p = c.args.p in
     not_shown p c.args.out.now c.args.out.now c.args.value.now c.refused.result
     (ap is_done (sym c.admitted_entry.ensures) ∙ undone c.admitted_entry.result c.in_default.not-Ok)
     (c.refused.ensures ∙ ap (refused_move p) c.admitted_entry.ensures) refl

@@ -15,7 +15,7 @@ use Rattle.gateway.proofs.calls.stopping.Goals as goal
 
 pub returns-in-Ok : goal.returns-in-Ok
 returns-in-Ok c =
-    let p = c.args.p.now in
+    let p = c.args.p in
     let out = c.args.out.now in
     acted_moves p out c.stop.new.out R.Entry (stop_of (bare_of p.stored) p.call.clock) (λ a. false) c.stop.result c.acted.result
     (ap is_done (sym c.before-2.ensures ∙ c.in-Ok.is))
@@ -25,7 +25,7 @@ returns-in-Ok c =
 
 pub returns-in_default : goal.returns-in_default
 returns-in_default c =
-    let p = c.args.p.now in
+    let p = c.args.p in
     let out = c.args.out.now in
     refused_moves p out out (before p (is_short (length out)) R.Entry) (stop_of (bare_of p.stored) p.call.clock) false c.refused.result
     (ap is_done (sym c.before-2.ensures) ∙ undone c.before-2.result c.in_default.not-Ok)

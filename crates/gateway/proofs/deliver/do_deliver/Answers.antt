@@ -65,7 +65,7 @@ same_refresh K.Refresh = refl
 
 pub returns-in-Err : goal.returns-in-Err
 returns-in-Err c =
-    let p = c.args.p.now in
+    let p = c.args.p in
     let w = handed_of c.args.record.now in
     let s = c.args.bytes.now in
     let out = c.args.out.now in
@@ -83,7 +83,7 @@ pub returns-in-Ok-before : goal.returns-in-Ok-before
 returns-in-Ok-before c =
     let refreshes : c.eq-refreshes.result ≡ is c.in-Ok.frame.fields.command K.Refresh =
     c.eq-refreshes.ensures ∙ same_refresh c.in-Ok.frame.fields.command in
-    let p = c.args.p.now in
+    let p = c.args.p in
     let r = c.args.record.now in
     let s = c.args.bytes.now in
     let out = c.args.out.now in
@@ -104,7 +104,7 @@ returns-in-Ok-before c =
 
 pub returns-in_default : goal.returns-in_default
 returns-in_default c =
-    let p = c.args.p.now in
+    let p = c.args.p in
     let w = handed_of c.args.record.now in
     let s = c.args.bytes.now in
     let out = c.args.out.now in

@@ -1,13 +1,12 @@
 -- A right list that fits is loaded, into the first records.
-use Rattle.std.proofs.Common.{◌≡◌, refl, sym, ap, ◌∙◌, ℕ, ltb, Bool, true, false, cond, List, [], ◌∷◌, zero, suc, ◌++◌, length, take, drop, arith}
+use Rattle.std.proofs.Common.{◌≡◌, ◌%◌, refl, sym, ap, ◌∙◌, ℕ, ltb, Bool, true, false, cond, List, [], ◌∷◌, zero, suc, ◌++◌, length, take, drop, arith}
 use Rattle.std.specs.Prelude.{Err, Ok, Result}
-use Rattle.std.proofs.lemmas.List.{length-take}
 use Rattle.endpoint.specs.declared.Reason.{Reason}
 use Rattle.endpoint.specs.declared.Reason.TheVariants as R
 use Rattle.settings.specs.Lists.{count_of, is_list}
 use Rattle.settings.proofs.Lists.{count_le}
 use Rattle.records.specs.declared.Record.{Record}
-use Rattle.lent.specs.First.{filled}
+use Rattle.lent.specs.First.{filled, filled_alike}
 use Rattle.gateway.specs.Loading.{fresh_at}
 use Rattle.gateway.proofs.load.load.Goals as goal
 
@@ -27,13 +26,13 @@ filled_cut f zero ys = refl
 filled_cut f (suc k) [] = refl
 filled_cut f (suc k) (y ∷ ys) = ap (λ (zs : List _). f 0 ∷ zs) (filled_cut (λ i. f (suc i)) k ys)
 
-pub make-requires : goal.make-requires
-make-requires c =
-    let ys = c.args.rs.now in
-    let ws = c.args.list.now in
-    let k = c.in-Ok.count in
-    let p = planned (is_list ws) (ltb (length ys) (count_of ws)) (count_of ws) k (sym c.planned.ensures ∙ c.in-Ok.is) in
-    omega (arith, length-take k ys, p.counted, count_le ws p.right)
+-- of a right list all connections have their record: there are 64 at most
+filled_made : (number : ℕ) (ws : List ℕ) (ys : List Record) → is_list ws ≡ true
+    → filled (λ i. fresh_at number ws (i % 256)) (count_of ws) ys ≡ filled (fresh_at number ws) (count_of ws) ys
+filled_made number ws ys h =
+    let l = count_le ws h in
+    filled_alike (λ i. fresh_at number ws (i % 256)) (fresh_at number ws) (count_of ws) ys
+    (λ i k. ap (fresh_at number ws) (let e : i % 256 ≡ i = omega (arith, l, k) in e))
 
 pub returns-in-Ok : goal.returns-in-Ok
 returns-in-Ok c =
@@ -41,9 +40,13 @@ returns-in-Ok c =
     let ws = c.args.list.now in
     let k = c.in-Ok.count in
     let p = planned (is_list ws) (ltb (length ys) (count_of ws)) (count_of ws) k (sym c.planned.ensures ∙ c.in-Ok.is) in
+    let f : ℕ → Record = λ i. fresh_at c.args.c.session ws (i % 256) in
     let made : c.make.new.table ++ drop k ys ≡ filled (fresh_at c.args.c.session ws) k ys =
     ap (λ (zs : List Record). zs ++ drop k ys) c.make.ensures
-    ∙ filled_cut (fresh_at c.args.c.session ws) k ys in
+    ∙ filled_cut f k ys
+    ∙ ap (λ (n : ℕ). filled f n ys) p.counted
+    ∙ filled_made c.args.c.session ws ys p.right
+    ∙ ap (λ (n : ℕ). filled (fresh_at c.args.c.session ws) n ys) (sym p.counted) in
     record {
       told = c.of.ensures ∙ rw (p.right, p.fits, p.counted);
       left = made ∙ rw (p.right, p.fits, p.counted);
